@@ -2,7 +2,6 @@
 use Rattle.std.proofs.Common.{◌≡◌, Bool, true, false, ℕ, ◌+◌, ◌<◌, ◌≤◌, List, [], ◌∷◌, length, refl, sym, ap, subst, subst₂, arith}
 use Rattle.std.specs.Prelude.{if◌then◌else◌, Option, Some, option_map, unwrap_or}
 use Rattle.std.specs.List.{AllByRecursion}
-use Rattle.std.proofs.lemmas.Bool.Decides.{nat_tests}
 use Rattle.std.proofs.lemmas.List.Elements.{recursion_from_All}
 use Rattle.si_lists.proofs.Lists.{all_at, all_map, all_two, each_unit}
 use Rattle.guide_model.specs.declared.guide.Guide.{Guide}

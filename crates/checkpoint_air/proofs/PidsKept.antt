@@ -1,4 +1,4 @@
--- What is kept of the PIDs of an air without null packets can be written.
+-- What is kept of the PIDs of an air can be written.
 use Rattle.std.proofs.Common.{◌≡◌, ◌≢◌, Bool, true, false, ℕ, ◌<◌, ◌≤◌, ◌==◌, List, [], ◌∷◌, length, map, refl, sym, ap, ◌∙◌, arith, eqb-true, eq-eqb}
 use Rattle.std.specs.Prelude.{if◌then◌else◌, Some, None}
 use Rattle.std.specs.List.{AllByRecursion, cons_option}
@@ -41,14 +41,22 @@ none_of pid (c ∷ cs) e = go (c.pid == pid) refl e (none_of pid cs)
     go true is f rest = absurd cc
     go false is f rest = (λ e. absurd (let no : true ≡ false = sym (eq-eqb c.pid pid e) ∙ is in cc), rest f)
 
-each_written : (cs : List PidCounter) → AllByRecursion IsPidCounter cs → AllByRecursion (λ (c : PidCounter). c.pid ≢ 8191) cs → AllByRecursion IsCounterWritten cs
+each_written : (cs : List PidCounter) → AllByRecursion IsPidCounter cs → AllByRecursion (λ (c : PidCounter). c.pid ≢ 8191) cs → AllByRecursion (IsCounterWritten None) cs
 each_written [] fit other = tt
 each_written (c ∷ cs) fit other = (record { pid = below c.pid fit.0.0 other.0; next = fit.0.1 }, each_written cs fit.1 other.1)
   where
     below : (pid : ℕ) → pid < 8192 → pid ≢ 8191 → pid ≤ 8190
     below pid lt other = omega (arith, lt, other)
 
+-- at a bit rate a PID has 13 bits
+each_timed : (rate : ℕ) (cs : List PidCounter) → AllByRecursion IsPidCounter cs → AllByRecursion (IsCounterWritten (Some rate)) cs
+each_timed rate [] fit = tt
+each_timed rate (c ∷ cs) fit =
+    (record { pid = omega (arith, fit.0.0); next = fit.0.1 }, each_timed rate cs fit.1)
+
 pub counters_written : CountersAreWritten
-counters_written airings xs pids is no_null are ascend fit =
+counters_written None airings xs pids is no_null are ascend fit =
     let none : counter_in 8191 pids ≡ None = are 8191 (omega arith) ∙ ap next_after (none_counted airings xs is no_null) in
     record { ascend = ascend; each = each_written pids (recursion_from_All IsPidCounter pids fit) (none_of 8191 pids none) }
+counters_written (Some rate) airings xs pids is no_null are ascend fit =
+    record { ascend = ascend; each = each_timed rate pids (recursion_from_All IsPidCounter pids fit) }

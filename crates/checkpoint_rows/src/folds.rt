@@ -1,14 +1,13 @@
 // What the steps of a script leave.
 ghost use Rattle.std.specs.Prelude.{◌≡◌, ◌<◌, ◌≤◌, ◌^◌, [], IfOk};
 ghost use Rattle.journal_model.specs.Steps.{IsStepWithin};
-ghost use Rattle.mux_model.specs.Sound.{IsSound};
 
 use crate::starts::mux_of;
-use carousel_player::Player;
+use air_sending::open_player;
+use cycle_player::CyclePlayer;
 use desk_checkpoint::write_checkpoint;
 use desk_core::Desk;
 use journal_model::Step;
-use mux_model::Mux;
 use row_lines::{Buffer, Lines};
 use script_lines::{ScriptItem, next_item};
 use std::alloc::{AllocError, Global};
@@ -39,20 +38,11 @@ fn steps(alloc: Global, lines: &mut Lines, desk: &mut Desk) -> Result<(), AllocE
     Ok(())
 }
 
-// The player of a multiplex, which sent nothing.
-fn player_of(alloc: Global, mux: &Mux) -> Result<Player, AllocError>
-    requires { IsSound mux.now }
-    ensures { IfOk result (λ player. player.left ≡ []) }
-{
-    let offsets = mux.offsets.copy()?;
-    Ok(Player::open(alloc, mux.quota, offsets))
-}
-
 // Appends the checkpoint of a desk and of a player that sent nothing.
 fn put_checkpoint(
     alloc: Global,
     desk: &Desk,
-    player: &Player,
+    player: &CyclePlayer,
     shift: u32,
     out: &mut Buffer,
 ) -> Result<(), AllocError>
@@ -68,7 +58,7 @@ fn put_checkpoint(
 fn tell_desk(
     alloc: Global,
     desk: &mut Desk,
-    player: &Player,
+    player: &CyclePlayer,
     shift: u32,
     lines: &mut Lines,
     out: &mut Buffer,
@@ -79,42 +69,42 @@ fn tell_desk(
     put_checkpoint(alloc, desk, player, shift, out)
 }
 
-// The desk of the multiplex with so many services.
-fn desk_of(alloc: Global, services: u32) -> Result<Desk, AllocError> {
-    Desk::open(alloc, mux_of(alloc, services)?)
+// The desk of the multiplex with this number.
+fn desk_of(alloc: Global, number: u32) -> Result<Desk, AllocError> {
+    Desk::open(alloc, mux_of(alloc, number)?)
 }
 
-// The player of the multiplex with so many services.
-fn player_for(alloc: Global, services: u32) -> Result<Player, AllocError>
+// The player of the multiplex with this number, which sent nothing.
+fn player_for(alloc: Global, number: u32) -> Result<CyclePlayer, AllocError>
     ensures { IfOk result (λ player. player.left ≡ []) }
 {
-    let mux = mux_of(alloc, services)?;
-    player_of(alloc, &mux)
+    let mux = mux_of(alloc, number)?;
+    open_player(alloc, &mux)
 }
 
 fn tell_player(
     alloc: Global,
-    services: u32,
-    player: &Player,
+    number: u32,
+    player: &CyclePlayer,
     shift: u32,
     lines: &mut Lines,
     out: &mut Buffer,
 ) -> Result<(), AllocError>
     requires { player.now.left ≡ [] }
 {
-    let mut desk = desk_of(alloc, services)?;
+    let mut desk = desk_of(alloc, number)?;
     tell_desk(alloc, &mut desk, player, shift, lines, out)
 }
 
-/// Appends the checkpoint of a desk of the multiplex with so many services that did the steps of a script, with this shift, and of a
-/// player that sent nothing.
+/// Appends the checkpoint of a desk of the multiplex with this number that did the steps of a
+/// script, with this shift, and of a player that sent nothing.
 pub fn tell(
     alloc: Global,
-    services: u32,
+    number: u32,
     shift: u32,
     lines: &mut Lines,
     out: &mut Buffer,
 ) -> Result<(), AllocError> {
-    let player = player_for(alloc, services)?;
-    tell_player(alloc, services, &player, shift, lines, out)
+    let player = player_for(alloc, number)?;
+    tell_player(alloc, number, &player, shift, lines, out)
 }

@@ -29,17 +29,17 @@ fn put_start(alloc: Global, out: &mut Buffer, start: &Start) -> Result<(), Alloc
     Ok(())
 }
 
-/// Appends why a checkpoint of the multiplex with so many services is not read, or the shift, and the checkpoint that its start leaves at
-/// once.
+/// Appends why a checkpoint of the multiplex with this number is not read, or the shift, and the
+/// checkpoint that its start leaves at once.
 pub fn tell(
     alloc: Global,
-    services: u32,
+    number: u32,
     lines: &mut Lines,
     out: &mut Buffer,
 ) -> Result<(), AllocError>
     requires { lines.old.stop ≡ None }
 {
-    match read_checkpoint(alloc, mux_of(alloc, services)?, lines) {
+    match read_checkpoint(alloc, mux_of(alloc, number)?, lines) {
         Ok(start) => put_start(alloc, out, &start),
         Err(stop) => {
             put_stop(out, stop);

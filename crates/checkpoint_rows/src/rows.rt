@@ -4,23 +4,17 @@ use row_lines::{Buffer, Cut, Row, WHOLE, numbered, put_in_short, reader, tell_in
 use si_causes::LineReader;
 use std::alloc::{AllocError, Global};
 
-// Appends what is read of a checkpoint of the multiplex with so many services, whose text comes so.
-fn read(
-    alloc: Global,
-    services: u32,
-    text: &str,
-    cut: Cut,
-    out: &mut Buffer,
-) -> Result<(), AllocError> {
+// Appends what is read of a checkpoint of the multiplex with this number, whose text comes so.
+fn read(alloc: Global, mux: u32, text: &str, cut: Cut, out: &mut Buffer) -> Result<(), AllocError> {
     let source = reader(alloc, text, cut)?.close();
     let mut lines = LineReader::open(alloc, source)?;
-    reads::tell(alloc, services, &mut lines, out)
+    reads::tell(alloc, mux, &mut lines, out)
 }
 
 // The same of a text in pieces.
-fn read_whole(alloc: Global, services: u32, text: &str, out: &mut Buffer) {
+fn read_whole(alloc: Global, mux: u32, text: &str, out: &mut Buffer) {
     tell_in_pieces(alloc, out, |cut: Cut, out: &mut Buffer| {
-        let done = read(alloc, services, text, cut, out);
+        let done = read(alloc, mux, text, cut, out);
         out.note(done);
     });
 }
@@ -35,13 +29,13 @@ fn read_to(alloc: Global, limit: u32, text: &str, out: &mut Buffer) -> Result<()
 // Appends what the steps of a script leave, with this shift.
 fn fold(
     alloc: Global,
-    services: u32,
+    mux: u32,
     shift: u32,
     text: &str,
     out: &mut Buffer,
 ) -> Result<(), AllocError> {
     let mut lines = reader(alloc, text, WHOLE)?;
-    folds::tell(alloc, services, shift, &mut lines, out)
+    folds::tell(alloc, mux, shift, &mut lines, out)
 }
 
 // The calls that have a number before their text.
@@ -58,6 +52,7 @@ fn tell_numbered(alloc: Global, call: &str, text: &str, out: &mut Buffer) {
         "read_to" => read_to(alloc, number, text, out),
         "fold" => fold(alloc, 1, number, text, out),
         "fold_two" => fold(alloc, 2, number, text, out),
+        "fold_timed" => fold(alloc, 3, number, text, out),
         _ => return out.say("no row"),
     };
     out.note(done);
@@ -68,6 +63,7 @@ fn tell(alloc: Global, call: &str, text: &str, out: &mut Buffer) {
     match call {
         "read" => read_whole(alloc, 1, text, out),
         "read_two" => read_whole(alloc, 2, text, out),
+        "read_timed" => read_whole(alloc, 3, text, out),
         _ => tell_numbered(alloc, call, text, out),
     }
 }

@@ -14,12 +14,15 @@ use Rattle.section_codec.specs.declared.table.NumberedBody.{NumberedBody}
 use Rattle.section_codec.specs.Keys.{is_listed}
 use Rattle.section_codec.proofs.NamingFacts.{listed_range}
 use Rattle.ts_packets.specs.declared.pid_counter.PidCounter.{PidCounter}
+use Rattle.timed_player.specs.declared.clock.Clock.{Clock}
+use Rattle.timed_player.specs.Clock.{reads}
 use Rattle.input_lines.specs.Fields.{record_of, fields_compute}
+use Rattle.input_lines.specs.Numbers.{number_in}
 use Rattle.input_lines.specs.Lines.{record_lines}
 use Rattle.input_lines.specs.Ahead.{Ahead, Row, Tail, Found, Came, Stopped, NoCommand, and_then, on_line}
 use Rattle.journal_model.specs.declared.step.Step.{Step}
 use Rattle.script_lines.specs.Script.{read_command}
-use Rattle.script_lines.proofs.NumberBack.{number_back, numeral_back, digits_of, decimal_some, value_back}
+use Rattle.script_lines.proofs.NumberBack.{low, number_back, numeral_back, digits_of, decimal_some, value_back}
 use Rattle.command_text.specs.Lines.{line_text, item_text}
 use Rattle.command_text.specs.Commands.{command_text, step_items}
 use Rattle.command_text.specs.Back.{IsRow, IsReadableCommand, ahead_of, command_lines, command_row, row_line, shown_lines}
@@ -29,10 +32,12 @@ use Rattle.command_text.proofs.CommandFields.{small_kept}
 use Rattle.command_text.proofs.CommandBack.{command_back, command_is_row, items_first, numbered, row_fields, row_first, step_rows}
 use Rattle.desk_checkpoint.specs.declared.part.Part.{Part}
 use Rattle.desk_checkpoint.specs.declared.part.Part.TheVariants.{Step as step, Version, Section, Counter, End}
-use Rattle.desk_checkpoint.specs.Fields.{begins_step, is_zero, body_in, count_fields, count_in, count_of, counter_fields, decoded, is_lower_digit, key_in, part_of, section_fields, version_fields}
-use Rattle.desk_checkpoint.specs.Reads.{NumberedPart, count_line, first_part, part_on, step_part}
-use Rattle.desk_checkpoint.specs.Text.{step_text}
-use Rattle.desk_checkpoint.specs.Laws.{IsSectionWritten, IsCounterWritten}
+use Rattle.desk_checkpoint.specs.declared.head.Head.{Head}
+use Rattle.desk_checkpoint.specs.Checkpoints.{last_pid}
+use Rattle.desk_checkpoint.specs.Fields.{begins_step, is_zero, body_in, clock_fields, clock_of, count_fields, count_in, count_of, counter_fields, decoded, is_lower_digit, key_in, part_of, section_fields, version_fields}
+use Rattle.desk_checkpoint.specs.Reads.{NumberedPart, clock_ahead, clock_line, count_line, head_ahead, first_part, part_on, step_part}
+use Rattle.desk_checkpoint.specs.Text.{clock_text, step_text}
+use Rattle.desk_checkpoint.specs.Laws.{IsSectionWritten, IsClockWritten, IsCounterWritten, IsShortClock, clock_at}
 use Rattle.desk_checkpoint.proofs.RowSizes.{row_size, number_size, small_size}
 
 -- ---- lines
@@ -119,7 +124,7 @@ count_is_row n lt = record {
   short = omega (arith, row_size (count_fields n), count_short n lt);
 }
 
-pub count_first : (n count : ℕ) (rest : List ℕ) (tail : Tail) → count < 10 ^ 18
+count_first : (n count : ℕ) (rest : List ℕ) (tail : Tail) → count < 10 ^ 18
     → count_line (ahead_of n (line_text (count_fields count) ++ rest) tail) ≡ Came count (ahead_of (n + 1) rest tail)
 count_first n count rest tail lt =
     let fields = count_fields count in
@@ -128,6 +133,70 @@ count_first n count rest tail lt =
     ap (λ (rows : List Row). count_line (in_rows rows tail)) (row_first fields n rest row)
     ∙ ap (λ (o : Option (List (List ℕ))). on_line n (option_and_then count_of o) more) (row_fields fields row)
     ∙ ap (λ (o : Option ℕ). on_line n o more) (count_back count lt)
+
+-- ---- the clock
+
+bits_back : (n : ℕ) → n ≤ 99999999 → number_in 0 99999999 (decimal n) ≡ Some n
+bits_back n le =
+    let small = low n (omega (arith, le)) in
+    let some = decimal_some n small in
+    let few = number_size n (omega (arith, le)) in
+    let one : nat_le 1 (length (decimal n)) ≡ true = grind (arith, nat_tests) in
+    let nine : nat_le (length (decimal n)) 9 ≡ true = grind (arith, nat_tests) in
+    let zero : nat_le 0 n ≡ true = grind (arith, nat_tests) in
+    let within : nat_le n 99999999 ≡ true = grind (arith, nat_tests) in
+    rw (digits_of n small, one, nine, value_back n small, zero, within) refl
+
+clock_back : (clock : Clock) → IsShortClock clock
+    → clock_of (clock_fields (reads clock)) ≡ Some clock
+clock_back clock h = rw (count_back clock.moment h.moment, bits_back clock.bits h.bits) refl
+
+clock_is_row : (clock : Clock) → IsShortClock clock → IsRow (clock_fields (reads clock))
+clock_is_row clock h = record {
+  front = (refl, refl);
+  kept = (written_kept (codes "clock") refl, (number_kept clock.moment (count_digits clock.moment h.moment), (number_kept clock.bits (low clock.bits (omega (arith, h.bits))), tt)));
+  short = omega (
+    arith,
+    row_size (clock_fields (reads clock)),
+    count_short clock.moment h.moment,
+    number_size clock.bits (omega (arith, h.bits)),
+  );
+}
+
+clock_first : (n : ℕ) (clock : Clock) (rest : List ℕ) (tail : Tail) → IsShortClock clock
+    → clock_line (ahead_of n (line_text (clock_fields (reads clock)) ++ rest) tail)
+    ≡ Came clock (ahead_of (n + 1) rest tail)
+clock_first n clock rest tail h =
+    let fields = clock_fields (reads clock) in
+    let row = clock_is_row clock h in
+    let more = ahead_of (n + 1) rest tail in
+    ap (λ (rows : List Row). clock_line (in_rows rows tail)) (row_first fields n rest row)
+    ∙ ap (λ (o : Option (List (List ℕ))). on_line n (option_and_then clock_of o) more) (row_fields fields row)
+    ∙ ap (λ (o : Option Clock). on_line n o more) (clock_back clock h)
+
+-- ---- what stands before the parts
+
+abbrev pub head_of : Option ℕ → ℕ → Clock → Head
+head_of rate count clock = record { count = count; clock = clock_at rate clock }
+
+abbrev and_clock : Option ℕ → ℕ → Ahead → Found Head
+and_clock rate count behind =
+    and_then (clock_ahead rate behind) (λ (c : Clock) more. let f : Found Head = Came (record { count = count; clock = c }) more in f)
+
+pub head_first : (rate : Option ℕ) (n count : ℕ) (clock : Clock) (rest : List ℕ) (tail : Tail)
+    → count < 10 ^ 18 → IsClockWritten rate clock
+    → (m : ℕ) × (head_ahead rate
+    (ahead_of n (line_text (count_fields count) ++ (clock_text rate (reads clock) ++ rest)) tail)
+    ≡ Came (head_of rate count clock) (ahead_of m rest tail))
+head_first None n count clock rest tail lt h =
+    (n + 1, ap (λ (f : Found ℕ). and_then f (λ c behind. and_clock None c behind)) (count_first n count rest tail lt))
+head_first (Some rate) n count clock rest tail lt h =
+    let line = line_text (clock_fields (reads clock)) in (
+      n + 1 + 1,
+      ap (λ (f : Found ℕ). and_then f (λ c behind. and_clock (Some rate) c behind)) (count_first n count (line ++ rest) tail lt)
+          ∙ ap (λ (f : Found Clock). and_then f (λ (c : Clock) more. let g : Found Head = Came (record { count = count; clock = c }) more in g))
+          (clock_first (n + 1) clock rest tail h),
+    )
 
 -- ---- keys
 
@@ -239,24 +308,28 @@ section_first may n section rest tail h =
 
 -- ---- counters
 
-counter_back : (counter : PidCounter) → IsCounterWritten counter → part_of (counter_fields counter) ≡ Some (Counter counter)
-unfolding part_of
-counter_back counter h =
-    rw (number_back counter.pid 8190 h.pid (omega arith), number_back counter.next 15 (omega (arith, h.next)) (omega arith)) refl
+low_pid : (rate : Option ℕ) (pid : ℕ) → pid ≤ last_pid rate → pid ≤ 8191
+low_pid None pid h = omega (arith, h)
+low_pid (Some rate) pid h = h
 
-counter_is_row : (counter : PidCounter) → IsCounterWritten counter → IsRow (counter_fields counter)
-counter_is_row counter h = record {
+counter_back : (rate : Option ℕ) (counter : PidCounter) → IsCounterWritten rate counter → part_of (counter_fields counter) ≡ Some (Counter counter)
+unfolding part_of
+counter_back rate counter h =
+    rw (number_back counter.pid 8191 (low_pid rate counter.pid h.pid) (omega arith), number_back counter.next 15 (omega (arith, h.next)) (omega arith)) refl
+
+counter_is_row : (rate : Option ℕ) (counter : PidCounter) → IsCounterWritten rate counter → IsRow (counter_fields counter)
+counter_is_row rate counter h = record {
   front = (refl, refl);
-  kept = (written_kept (codes "counter") refl, (small_kept counter.pid 8190 h.pid (omega arith), (small_kept counter.next 15 (omega (arith, h.next)) (omega arith), tt)));
+  kept = (written_kept (codes "counter") refl, (small_kept counter.pid 8191 (low_pid rate counter.pid h.pid) (omega arith), (small_kept counter.next 15 (omega (arith, h.next)) (omega arith), tt)));
   short = omega (
     arith,
     row_size (counter_fields counter),
-    number_size counter.pid (omega (arith, h.pid)),
+    number_size counter.pid (omega (arith, low_pid rate counter.pid h.pid)),
     number_size counter.next (omega (arith, h.next)),
   );
 }
 
-pub counter_first : (may : Bool) (n : ℕ) (counter : PidCounter) (rest : List ℕ) (tail : Tail) → IsCounterWritten counter
+pub counter_first : (rate : Option ℕ) (may : Bool) (n : ℕ) (counter : PidCounter) (rest : List ℕ) (tail : Tail) → IsCounterWritten rate counter
     → first_part may (ahead_of n (line_text (counter_fields counter) ++ rest) tail) ≡ Came (n, Counter counter) (ahead_of (n + 1) rest tail)
-counter_first may n counter rest tail h =
-    part_first may n (counter_fields counter) (Counter counter) rest tail (counter_is_row counter h) refl (counter_back counter h)
+counter_first rate may n counter rest tail h =
+    part_first may n (counter_fields counter) (Counter counter) rest tail (counter_is_row rate counter h) refl (counter_back rate counter h)

@@ -25,8 +25,9 @@ use Rattle.command_text.specs.Lines.{line_text}
 use Rattle.command_text.specs.Back.{IsReadableCommand, ahead_of, command_lines}
 use Rattle.desk_checkpoint.specs.declared.part.Part.{Part}
 use Rattle.desk_checkpoint.specs.declared.part.Part.TheVariants.{Step as step, Version, Section, Counter, End}
+use Rattle.desk_checkpoint.specs.declared.head.Head.{Head}
 use Rattle.desk_checkpoint.specs.Fields.{version_fields}
-use Rattle.desk_checkpoint.specs.Checkpoints.{Checkpoint, and_current, comes_behind, is_end, is_nil, steps_may_come, whole, with_part}
+use Rattle.desk_checkpoint.specs.Checkpoints.{Checkpoint, and_current, comes_behind, is_end, is_nil, last_pid, steps_may_come, whole, with_part}
 use Rattle.desk_checkpoint.specs.Reads.{first_part, read_on}
 use Rattle.desk_checkpoint.specs.Text.{counter_text, key_text, section_text, step_text, steps_text}
 use Rattle.desk_checkpoint.specs.Laws.{IsSectionWritten, IsKeyWritten, IsCounterWritten}
@@ -69,13 +70,21 @@ ends_here cp next is n rest tail = read_end cp next (ahead_of n (codes "end\n" +
 
 -- ---- a checkpoint so far
 
-abbrev pub so_far : ℕ → DeskState → List KeyVersion → Option KeyVersion → ℕ → List PidCounter → ℕ → Checkpoint
-so_far count desk front current number counters pid =
-    record { count = count; desk = desk; keys = front; current = current; number = number; counters = counters; pid = pid }
+abbrev pub so_far : Head → DeskState → List KeyVersion → Option KeyVersion → ℕ → List PidCounter → ℕ → Checkpoint
+so_far head desk front current number counters pid = record {
+  count = head.count;
+  desk = desk;
+  keys = front;
+  current = current;
+  number = number;
+  counters = counters;
+  pid = pid;
+  clock = head.clock;
+}
 
 -- after these steps alone
-abbrev pub stepped : Mux → ℕ → List Entry → Checkpoint
-stepped mux count entries = so_far count (record { mux = mux; entries = entries }) [] None 0 [] 0
+abbrev pub stepped : Mux → Head → List Entry → Checkpoint
+stepped mux head entries = so_far head (record { mux = mux; entries = entries }) [] None 0 [] 0
 
 -- ---- steps
 
@@ -86,31 +95,31 @@ IsAsked command = (command.0 ≡ 0) × IsReadableCommand 0 command.1
 abbrev IsTaken : Entry → Type 0
 IsTaken entry = is_taken entry.outcome ≡ true
 
-step_read : (mux : Mux) (count : ℕ) (entries : List Entry) (s : Step) → IsReadableCommand 0 s → is_taken (outcome_of mux entries s) ≡ true
-    → Reads (stepped mux count entries) (step_text (0, s)) (stepped mux count (entries ++ entry_after mux entries (0, s) ∷ []))
-step_read mux count entries s h taken =
-    let next = stepped mux count (entries ++ entry_after mux entries (0, s) ∷ []) in
-    reads_part (stepped mux count entries) next (step_text (0, s)) (step s) (λ n rest tail. (n + command_lines s, step_first n s rest tail h))
+step_read : (mux : Mux) (head : Head) (entries : List Entry) (s : Step) → IsReadableCommand 0 s → is_taken (outcome_of mux entries s) ≡ true
+    → Reads (stepped mux head entries) (step_text (0, s)) (stepped mux head (entries ++ entry_after mux entries (0, s) ∷ []))
+step_read mux head entries s h taken =
+    let next = stepped mux head (entries ++ entry_after mux entries (0, s) ∷ []) in
+    reads_part (stepped mux head entries) next (step_text (0, s)) (step s) (λ n rest tail. (n + command_lines s, step_first n s rest tail h))
     (ap (λ (b : Bool). let o : Option Checkpoint = if b then Some next else None in o) taken) refl
 
-command_read : (mux : Mux) (count : ℕ) (entries : List Entry) (who : ℕ) (s : Step) → who ≡ 0 → IsReadableCommand 0 s → is_taken (outcome_of mux entries s) ≡ true
-    → Reads (stepped mux count entries) (step_text (who, s)) (stepped mux count (entries ++ entry_after mux entries (who, s) ∷ []))
-command_read mux count entries who s e h taken =
-    subst (λ w. Reads (stepped mux count entries) (step_text (w, s)) (stepped mux count (entries ++ entry_after mux entries (w, s) ∷ []))) (sym e)
-    (step_read mux count entries s h taken)
+command_read : (mux : Mux) (head : Head) (entries : List Entry) (who : ℕ) (s : Step) → who ≡ 0 → IsReadableCommand 0 s → is_taken (outcome_of mux entries s) ≡ true
+    → Reads (stepped mux head entries) (step_text (who, s)) (stepped mux head (entries ++ entry_after mux entries (who, s) ∷ []))
+command_read mux head entries who s e h taken =
+    subst (λ w. Reads (stepped mux head entries) (step_text (w, s)) (stepped mux head (entries ++ entry_after mux entries (w, s) ∷ []))) (sym e)
+    (step_read mux head entries s h taken)
 
-pub steps_read : (mux : Mux) (count : ℕ) (entries : List Entry) (commands : List Command) → AllByRecursion IsAsked commands
+pub steps_read : (mux : Mux) (head : Head) (entries : List Entry) (commands : List Command) → AllByRecursion IsAsked commands
     → AllByRecursion IsTaken (journal_after mux entries commands)
-    → Reads (stepped mux count entries) (steps_text commands) (stepped mux count (entries ++ journal_after mux entries commands))
-steps_read mux count entries [] asked taken =
-    subst (λ (l : List Entry). Reads (stepped mux count entries) [] (stepped mux count l)) (sym (append-nil entries)) (reads_nothing (stepped mux count entries))
-steps_read mux count entries (command ∷ commands) asked taken =
+    → Reads (stepped mux head entries) (steps_text commands) (stepped mux head (entries ++ journal_after mux entries commands))
+steps_read mux head entries [] asked taken =
+    subst (λ (l : List Entry). Reads (stepped mux head entries) [] (stepped mux head l)) (sym (append-nil entries)) (reads_nothing (stepped mux head entries))
+steps_read mux head entries (command ∷ commands) asked taken =
     let entry = entry_after mux entries command in
     let first = entries ++ entry ∷ [] in
     let more = journal_after mux first commands in
-    subst (λ (l : List Entry). Reads (stepped mux count entries) (steps_text (command ∷ commands)) (stepped mux count l)) (append_assoc entries (entry ∷ []) more)
-    (reads_both (stepped mux count entries) (stepped mux count first) (stepped mux count (first ++ more)) (step_text command) (steps_text commands)
-    (command_read mux count entries command.0 command.1 asked.0.0 asked.0.1 taken.0) (steps_read mux count first commands asked.1 taken.1))
+    subst (λ (l : List Entry). Reads (stepped mux head entries) (steps_text (command ∷ commands)) (stepped mux head l)) (append_assoc entries (entry ∷ []) more)
+    (reads_both (stepped mux head entries) (stepped mux head first) (stepped mux head (first ++ more)) (step_text command) (steps_text commands)
+    (command_read mux head entries command.0 command.1 asked.0.0 asked.0.1 taken.0) (steps_read mux head first commands asked.1 taken.1))
 
 -- ---- keys
 
@@ -144,43 +153,43 @@ ascend_next s (t ∷ ss) h = (let lt = h.0 in omega arith, h.1)
 abbrev begun : Key → ℕ → List NumberedBody → KeyVersion
 begun key version sections = record { key = key; version = version; sections = sections }
 
-sections_read : (count : ℕ) (desk : DeskState) (front : List KeyVersion) (key : Key) (version : ℕ) (before : List NumberedBody) (number : ℕ) (sections : List NumberedBody)
+sections_read : (head : Head) (desk : DeskState) (front : List KeyVersion) (key : Key) (version : ℕ) (before : List NumberedBody) (number : ℕ) (sections : List NumberedBody)
     → IsFrom number sections → Ascend sections → AllByRecursion IsSectionWritten sections
-    → Reads (so_far count desk front (Some (begun key version before)) number [] 0) (flat_map section_text sections)
-    (so_far count desk front (Some (begun key version (before ++ sections))) (number_behind number sections) [] 0)
-sections_read count desk front key version before number [] from ascend written =
-    subst (λ (l : List NumberedBody). Reads (so_far count desk front (Some (begun key version before)) number [] 0) [] (so_far count desk front (Some (begun key version l)) number [] 0))
-    (sym (append-nil before)) (reads_nothing (so_far count desk front (Some (begun key version before)) number [] 0))
-sections_read count desk front key version before number (s ∷ ss) from ascend written =
-    let start = so_far count desk front (Some (begun key version before)) number [] 0 in
+    → Reads (so_far head desk front (Some (begun key version before)) number [] 0) (flat_map section_text sections)
+    (so_far head desk front (Some (begun key version (before ++ sections))) (number_behind number sections) [] 0)
+sections_read head desk front key version before number [] from ascend written =
+    subst (λ (l : List NumberedBody). Reads (so_far head desk front (Some (begun key version before)) number [] 0) [] (so_far head desk front (Some (begun key version l)) number [] 0))
+    (sym (append-nil before)) (reads_nothing (so_far head desk front (Some (begun key version before)) number [] 0))
+sections_read head desk front key version before number (s ∷ ss) from ascend written =
+    let start = so_far head desk front (Some (begun key version before)) number [] 0 in
     let first = before ++ s ∷ [] in
-    let middle = so_far count desk front (Some (begun key version first)) (s.number + 1) [] 0 in
+    let middle = so_far head desk front (Some (begun key version first)) (s.number + 1) [] 0 in
     let end = number_behind (s.number + 1) ss in
     let next = ascend_next s ss ascend in
-    subst (λ (l : List NumberedBody). Reads start (flat_map section_text (s ∷ ss)) (so_far count desk front (Some (begun key version l)) end [] 0)) (append_assoc before (s ∷ []) ss)
-    (reads_both start middle (so_far count desk front (Some (begun key version (first ++ ss))) end [] 0) (section_text s) (flat_map section_text ss)
+    subst (λ (l : List NumberedBody). Reads start (flat_map section_text (s ∷ ss)) (so_far head desk front (Some (begun key version l)) end [] 0)) (append_assoc before (s ∷ []) ss)
+    (reads_both start middle (so_far head desk front (Some (begun key version (first ++ ss))) end [] 0) (section_text s) (flat_map section_text ss)
     (reads_part start middle (section_text s) (Section s) (λ n rest tail. (n + 1, section_first (steps_may_come start) n s rest tail written.0))
     (ap (λ (b : Bool). let o : Option Checkpoint = if b then Some middle else None in o) (le-leb number s.number from)) refl)
-    (sections_read count desk front key version first (s.number + 1) ss next.0 next.1 written.1))
+    (sections_read head desk front key version first (s.number + 1) ss next.0 next.1 written.1))
 
-version_with : (count : ℕ) (desk : DeskState) (front all : List KeyVersion) (current : Option KeyVersion) (number : ℕ) (key : Key) (version : ℕ)
-    → HasPublished count desk → comes_behind key current ≡ true → and_current front current ≡ Some all
-    → with_part (so_far count desk front current number [] 0) (Version key version) ≡ Some (so_far count desk all (Some (begun key version [])) 0 [] 0)
-version_with count desk front all current number key version has comes is = rw (comes, has, is) refl
+version_with : (head : Head) (desk : DeskState) (front all : List KeyVersion) (current : Option KeyVersion) (number : ℕ) (key : Key) (version : ℕ)
+    → HasPublished head.count desk → comes_behind key current ≡ true → and_current front current ≡ Some all
+    → with_part (so_far head desk front current number [] 0) (Version key version) ≡ Some (so_far head desk all (Some (begun key version [])) 0 [] 0)
+version_with head desk front all current number key version has comes is = rw (comes, has, is) refl
 
-key_read : (count : ℕ) (desk : DeskState) (front all : List KeyVersion) (current : Option KeyVersion) (number : ℕ) (entry : Key × GivenVersion)
-    → HasPublished count desk → IsKeyWritten entry → comes_behind entry.0 current ≡ true → and_current front current ≡ Some all
-    → Reads (so_far count desk front current number [] 0) (key_text entry) (so_far count desk all (Some (kept_of entry)) (number_behind 0 entry.1.content) [] 0)
-key_read count desk front all current number entry has written comes is =
+key_read : (head : Head) (desk : DeskState) (front all : List KeyVersion) (current : Option KeyVersion) (number : ℕ) (entry : Key × GivenVersion)
+    → HasPublished head.count desk → IsKeyWritten entry → comes_behind entry.0 current ≡ true → and_current front current ≡ Some all
+    → Reads (so_far head desk front current number [] 0) (key_text entry) (so_far head desk all (Some (kept_of entry)) (number_behind 0 entry.1.content) [] 0)
+key_read head desk front all current number entry has written comes is =
     let key = entry.0 in
     let version = entry.1.version in
-    let start = so_far count desk front current number [] 0 in
-    let middle = so_far count desk all (Some (begun key version [])) 0 [] 0 in
-    reads_both start middle (so_far count desk all (Some (kept_of entry)) (number_behind 0 entry.1.content) [] 0) (line_text (version_fields key version)) (flat_map section_text entry.1.content)
+    let start = so_far head desk front current number [] 0 in
+    let middle = so_far head desk all (Some (begun key version [])) 0 [] 0 in
+    reads_both start middle (so_far head desk all (Some (kept_of entry)) (number_behind 0 entry.1.content) [] 0) (line_text (version_fields key version)) (flat_map section_text entry.1.content)
     (reads_part start middle (line_text (version_fields key version)) (Version key version)
     (λ n rest tail. (n + 1, version_first (steps_may_come start) n key version rest tail written.listed written.ext written.stream written.network written.version))
-    (version_with count desk front all current number key version has comes is) refl)
-    (sections_read count desk all key version [] 0 entry.1.content (from_none entry.1.content) written.ascend written.sections)
+    (version_with head desk front all current number key version has comes is) refl)
+    (sections_read head desk all key version [] 0 entry.1.content (from_none entry.1.content) written.ascend written.sections)
   where
     from_none : (sections : List NumberedBody) → IsFrom 0 sections
     from_none [] = tt
@@ -192,12 +201,12 @@ IsBehind current [] = Unit {0}
 IsBehind current (entry ∷ keys) = comes_behind entry.0 current ≡ true
 
 -- what is read of keys: all of them, of which the last may still be the current one
-pub record ReadKeys (count : ℕ) (desk : DeskState) (start : Checkpoint) (text : List ℕ) (all : List KeyVersion) : Type 0 where
+pub record ReadKeys (head : Head) (desk : DeskState) (start : Checkpoint) (text : List ℕ) (all : List KeyVersion) : Type 0 where
   pub front : List KeyVersion
   pub current : Option KeyVersion
   pub number : ℕ
   pub is : and_current front current ≡ Some all
-  pub reads : Reads start text (so_far count desk front current number [] 0)
+  pub reads : Reads start text (so_far head desk front current number [] 0)
 
 some_nil : {A : Type 0} (xs : List A) → xs ≢ [] → is_nil xs ≡ false
 some_nil [] h = absurd (h refl)
@@ -211,30 +220,30 @@ next_behind : (entry : Key × GivenVersion) (keys : GivenVersions) → AllByRecu
 next_behind entry [] h = tt
 next_behind entry (next ∷ keys) h = rw h.0 refl
 
-pub keys_read : (count : ℕ) (desk : DeskState) (front all : List KeyVersion) (current : Option KeyVersion) (number : ℕ) (keys : GivenVersions)
-    → HasPublished count desk → AllByRecursion IsKeyWritten keys → IsStrictlySortedBy key_cmp (keys_of keys) → IsBehind current keys → and_current front current ≡ Some all
-    → ReadKeys count desk (so_far count desk front current number [] 0) (flat_map key_text keys) (all ++ map kept_of keys)
+pub keys_read : (head : Head) (desk : DeskState) (front all : List KeyVersion) (current : Option KeyVersion) (number : ℕ) (keys : GivenVersions)
+    → HasPublished head.count desk → AllByRecursion IsKeyWritten keys → IsStrictlySortedBy key_cmp (keys_of keys) → IsBehind current keys → and_current front current ≡ Some all
+    → ReadKeys head desk (so_far head desk front current number [] 0) (flat_map key_text keys) (all ++ map kept_of keys)
 unfolding IsStrictlySortedBy
-keys_read count desk front all current number [] has written sorted behind is = record {
+keys_read head desk front all current number [] has written sorted behind is = record {
   front = front;
   current = current;
   number = number;
   is = is ∙ ap (λ (l : List KeyVersion). let o : Option (List KeyVersion) = Some l in o) (sym (append-nil all));
-  reads = reads_nothing (so_far count desk front current number [] 0);
+  reads = reads_nothing (so_far head desk front current number [] 0);
 }
-keys_read count desk front all current number (entry ∷ keys) has written sorted behind is =
-    let start = so_far count desk front current number [] 0 in
+keys_read head desk front all current number (entry ∷ keys) has written sorted behind is =
+    let start = so_far head desk front current number [] 0 in
     let last = number_behind 0 entry.1.content in
-    let middle = so_far count desk all (Some (kept_of entry)) last [] 0 in
-    let more = keys_read count desk all (all ++ kept_of entry ∷ []) (Some (kept_of entry)) last keys has written.1 sorted.1 (next_behind entry keys sorted.0)
+    let middle = so_far head desk all (Some (kept_of entry)) last [] 0 in
+    let more = keys_read head desk all (all ++ kept_of entry ∷ []) (Some (kept_of entry)) last keys has written.1 sorted.1 (next_behind entry keys sorted.0)
     (and_whole all (kept_of entry) written.0.some) in
     record {
       front = more.front;
       current = more.current;
       number = more.number;
       is = more.is ∙ ap (λ (l : List KeyVersion). let o : Option (List KeyVersion) = Some l in o) (append_assoc all (kept_of entry ∷ []) (map kept_of keys));
-      reads = reads_both start middle (so_far count desk more.front more.current more.number [] 0) (key_text entry) (flat_map key_text keys)
-          (key_read count desk front all current number entry has written.0 behind is) more.reads;
+      reads = reads_both start middle (so_far head desk more.front more.current more.number [] 0) (key_text entry) (flat_map key_text keys)
+          (key_read head desk front all current number entry has written.0 behind is) more.reads;
     }
 
 -- ---- counters
@@ -258,53 +267,54 @@ pid_next c (d ∷ cs) h =
     )
 
 -- what is read of counters
-pub record ReadCounters (count : ℕ) (desk : DeskState) (start : Checkpoint) (text : List ℕ) (all : List KeyVersion) (counters : List PidCounter) : Type 0 where
+pub record ReadCounters (head : Head) (desk : DeskState) (start : Checkpoint) (text : List ℕ) (all : List KeyVersion) (counters : List PidCounter) : Type 0 where
   pub front : List KeyVersion
   pub current : Option KeyVersion
   pub number : ℕ
   pub pid : ℕ
   pub is : and_current front current ≡ Some all
-  pub reads : Reads start text (so_far count desk front current number counters pid)
+  pub reads : Reads start text (so_far head desk front current number counters pid)
 
-counter_with : (count : ℕ) (desk : DeskState) (front all : List KeyVersion) (current : Option KeyVersion) (number : ℕ) (before : List PidCounter) (pid : ℕ) (counter : PidCounter)
-    → HasPublished count desk → pid ≤ counter.pid → and_current front current ≡ Some all
-    → with_part (so_far count desk front current number before pid) (Counter counter) ≡ Some (so_far count desk all None number (before ++ counter ∷ []) (counter.pid + 1))
-counter_with count desk front all current number before pid counter has low is = rw (le-leb pid counter.pid low, has, is) refl
+counter_with : (head : Head) (desk : DeskState) (front all : List KeyVersion) (current : Option KeyVersion) (number : ℕ) (before : List PidCounter) (pid : ℕ) (counter : PidCounter)
+    → HasPublished head.count desk → pid ≤ counter.pid → counter.pid ≤ last_pid desk.mux.rate → and_current front current ≡ Some all
+    → with_part (so_far head desk front current number before pid) (Counter counter) ≡ Some (so_far head desk all None number (before ++ counter ∷ []) (counter.pid + 1))
+counter_with head desk front all current number before pid counter has low most is =
+    rw (le-leb pid counter.pid low, le-leb counter.pid (last_pid desk.mux.rate) most, has, is) refl
 
-pub counters_read : (count : ℕ) (desk : DeskState) (front all : List KeyVersion) (current : Option KeyVersion) (number : ℕ) (before : List PidCounter) (pid : ℕ) (counters : List PidCounter)
-    → HasPublished count desk → AllByRecursion IsCounterWritten counters → IsStrictlyIncreasing (pids counters) → IsFromPid pid counters → and_current front current ≡ Some all
-    → ReadCounters count desk (so_far count desk front current number before pid) (flat_map counter_text counters) all (before ++ counters)
-counters_read count desk front all current number before pid [] has written ascend from is = record {
+pub counters_read : (head : Head) (desk : DeskState) (front all : List KeyVersion) (current : Option KeyVersion) (number : ℕ) (before : List PidCounter) (pid : ℕ) (counters : List PidCounter)
+    → HasPublished head.count desk → AllByRecursion (IsCounterWritten desk.mux.rate) counters → IsStrictlyIncreasing (pids counters) → IsFromPid pid counters → and_current front current ≡ Some all
+    → ReadCounters head desk (so_far head desk front current number before pid) (flat_map counter_text counters) all (before ++ counters)
+counters_read head desk front all current number before pid [] has written ascend from is = record {
   front = front;
   current = current;
   number = number;
   pid = pid;
   is = is;
-  reads = subst (λ (l : List PidCounter). Reads (so_far count desk front current number before pid) [] (so_far count desk front current number l pid)) (sym (append-nil before))
-      (reads_nothing (so_far count desk front current number before pid));
+  reads = subst (λ (l : List PidCounter). Reads (so_far head desk front current number before pid) [] (so_far head desk front current number l pid)) (sym (append-nil before))
+      (reads_nothing (so_far head desk front current number before pid));
 }
-counters_read count desk front all current number before pid (c ∷ cs) has written ascend from is =
-    let start = so_far count desk front current number before pid in
+counters_read head desk front all current number before pid (c ∷ cs) has written ascend from is =
+    let start = so_far head desk front current number before pid in
     let first = before ++ c ∷ [] in
-    let middle = so_far count desk all None number first (c.pid + 1) in
+    let middle = so_far head desk all None number first (c.pid + 1) in
     let next = pid_next c cs ascend in
-    let more = counters_read count desk all all None number first (c.pid + 1) cs has written.1 next.1 next.0 refl in
+    let more = counters_read head desk all all None number first (c.pid + 1) cs has written.1 next.1 next.0 refl in
     record {
       front = more.front;
       current = more.current;
       number = more.number;
       pid = more.pid;
       is = more.is;
-      reads = subst (λ (l : List PidCounter). Reads start (flat_map counter_text (c ∷ cs)) (so_far count desk more.front more.current more.number l more.pid)) (append_assoc before (c ∷ []) cs)
-          (reads_both start middle (so_far count desk more.front more.current more.number (first ++ cs) more.pid) (counter_text c) (flat_map counter_text cs)
-          (reads_part start middle (counter_text c) (Counter c) (λ n rest tail. (n + 1, counter_first (steps_may_come start) n c rest tail written.0))
-          (counter_with count desk front all current number before pid c has from is) refl)
+      reads = subst (λ (l : List PidCounter). Reads start (flat_map counter_text (c ∷ cs)) (so_far head desk more.front more.current more.number l more.pid)) (append_assoc before (c ∷ []) cs)
+          (reads_both start middle (so_far head desk more.front more.current more.number (first ++ cs) more.pid) (counter_text c) (flat_map counter_text cs)
+          (reads_part start middle (counter_text c) (Counter c) (λ n rest tail. (n + 1, counter_first desk.mux.rate (steps_may_come start) n c rest tail written.0))
+          (counter_with head desk front all current number before pid c has from written.0.pid is) refl)
           more.reads);
     }
 
 -- ---- the end
 
-pub end_with : (count : ℕ) (desk : DeskState) (front all : List KeyVersion) (current : Option KeyVersion) (number : ℕ) (counters : List PidCounter) (pid : ℕ)
-    → HasPublished count desk → and_current front current ≡ Some all
-    → whole (so_far count desk front current number counters pid) ≡ Some (so_far count desk all None number counters pid)
-end_with count desk front all current number counters pid has is = rw (has, is) refl
+pub end_with : (head : Head) (desk : DeskState) (front all : List KeyVersion) (current : Option KeyVersion) (number : ℕ) (counters : List PidCounter) (pid : ℕ)
+    → HasPublished head.count desk → and_current front current ≡ Some all
+    → whole (so_far head desk front current number counters pid) ≡ Some (so_far head desk all None number counters pid)
+end_with head desk front all current number counters pid has is = rw (has, is) refl

@@ -1,8 +1,8 @@
 -- What reading the rest of a checkpoint gives, by what its next part gives.
 use Rattle.std.proofs.Common.{◌≡◌, ◌≤◌, ℕ, List, sym, subst}
-use Rattle.std.specs.Prelude.{Option, Some, None, Ok, Err, Result}
+use Rattle.std.specs.Prelude.{Option, Err, Result}
 use Rattle.si_causes.proofs.CauseFacts.{Rose-from}
-use Rattle.si_causes.specs.Reading.{Reading, text_left}
+use Rattle.si_causes.specs.Reading.{Reading}
 use Rattle.si_causes.specs.declared.stop.ReadStop.TheVariants.{Failed, TooLong as Overlong}
 use Rattle.input_lines.specs.declared.stop.EditStop.{EditStop}
 use Rattle.input_lines.specs.declared.stop.EditStop.TheVariants as edits

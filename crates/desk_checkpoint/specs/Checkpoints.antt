@@ -1,5 +1,5 @@
 -- What stands in a checkpoint, and in which order its parts come.
-use Rattle.std.specs.Prelude.{ℕ, ◌+◌, ◌==◌, ◌&&◌, nat_le, Bool, true, false, List, [], ◌∷◌, ◌++◌, Option, Some, None, Ok, Err, Result, option_map, if◌then◌else◌}
+use Rattle.std.specs.Prelude.{ℕ, ◌+◌, ◌==◌, ◌&&◌, nat_le, Bool, true, false, List, [], ◌∷◌, ◌++◌, Option, Some, None, option_map, if◌then◌else◌}
 use Rattle.std.specs.declared.cmp.Ordering.{Ordering}
 use Rattle.std.specs.declared.cmp.Ordering.TheVariants.{Less, Equal, Greater}
 use Rattle.section_codec.specs.declared.table.Key.{Key}
@@ -7,6 +7,7 @@ use Rattle.section_codec.specs.declared.table.NumberedBody.{NumberedBody}
 use Rattle.section_codec.specs.KeyOrder.{key_cmp}
 use Rattle.version_book.specs.declared.key_version.KeyVersion.{KeyVersion}
 use Rattle.ts_packets.specs.declared.pid_counter.PidCounter.{PidCounter}
+use Rattle.timed_player.specs.declared.clock.Clock.{Clock}
 use Rattle.mux_model.specs.declared.mux.Mux.{Mux}
 use Rattle.journal_model.specs.declared.step.Step.{Step}
 use Rattle.journal_model.specs.declared.step.Outcome.{Outcome}
@@ -18,8 +19,8 @@ use Rattle.desk_checkpoint.specs.declared.part.Part.{Part}
 use Rattle.desk_checkpoint.specs.declared.part.Part.TheVariants.{Step as step, Version, Section, Counter, End}
 
 -- What was read of a checkpoint: how many publications there were, the desk after its steps, the keys that were read whole, the key whose
--- sections are being read with the lowest number that the next of them may have, and the counters with the lowest PID that the next of
--- them may have.
+-- sections are being read with the lowest number that the next of them may have, the counters with the lowest PID that the next of
+-- them may have, and the clock, which stands at 0 where there is no bit rate.
 pub record Checkpoint : Type 0 where
   pub count : ℕ
   pub desk : DeskState
@@ -28,10 +29,20 @@ pub record Checkpoint : Type 0 where
   pub number : ℕ
   pub counters : List PidCounter
   pub pid : ℕ
+  pub clock : Clock
 
 -- before any part
-abbrev pub counted : Mux → ℕ → Checkpoint
-counted mux count = record { count = count; desk = fresh mux; keys = []; current = None; number = 0; counters = []; pid = 0 }
+abbrev pub counted : Mux → ℕ → Clock → Checkpoint
+counted mux count clock = record {
+  count = count;
+  desk = fresh mux;
+  keys = [];
+  current = None;
+  number = 0;
+  counters = [];
+  pid = 0;
+  clock = clock;
+}
 
 abbrev pub is_none : {A : Type 0} → Option A → Bool
 is_none None = true
@@ -99,11 +110,20 @@ and_section cp section (Some key) =
 abbrev pub with_section : Checkpoint → NumberedBody → Option Checkpoint
 with_section cp section = and_section cp section cp.current
 
+-- The last PID that may have a counter. Null packets have PID 8191 (ISO/IEC 13818-1, 2.4.3.3), and
+-- are sent only at a bit rate.
+abbrev pub last_pid : Option ℕ → ℕ
+last_pid None = 8190
+last_pid (Some rate) = 8191
+
+abbrev pub may_count : Checkpoint → PidCounter → Bool
+may_count cp counter = nat_le cp.pid counter.pid && nat_le counter.pid (last_pid cp.desk.mux.rate)
+
 -- counters ascend, behind the keys
 abbrev pub with_counter : Checkpoint → PidCounter → Option Checkpoint
 with_counter cp counter =
     let and_counter : Checkpoint → Checkpoint = λ before. record before { counters = before.counters ++ counter ∷ []; pid = counter.pid + 1 } in
-    if nat_le cp.pid counter.pid then option_map and_counter (whole cp) else None
+    if may_count cp counter then option_map and_counter (whole cp) else None
 
 -- with one more part, where it may stand there; the end stands behind what is whole
 abbrev pub with_part : Checkpoint → Part → Option Checkpoint

@@ -7,6 +7,8 @@ use Rattle.section_codec.specs.declared.table.Key.{Key}
 use Rattle.section_codec.specs.declared.table.NumberedBody.{NumberedBody}
 use Rattle.section_codec.specs.Keys.{is_listed}
 use Rattle.ts_packets.specs.declared.pid_counter.PidCounter.{PidCounter}
+use Rattle.air_paced.specs.Clock.{Clock}
+use Rattle.timed_player.specs.declared.clock.Clock.{Clock as KeptClock}
 use Rattle.input_lines.specs.Numbers.{is_digit, is_word, number_in, numeral_of, value_from}
 use Rattle.desk_checkpoint.specs.declared.part.Part.{Part}
 use Rattle.desk_checkpoint.specs.declared.part.Part.TheVariants.{Version, Section, Counter, End}
@@ -16,6 +18,10 @@ use Rattle.desk_checkpoint.specs.declared.part.Part.TheVariants.{Version, Sectio
 -- how many publications there are
 abbrev pub count_fields : ℕ → List (List ℕ)
 count_fields count = codes "checkpoint" ∷ decimal count ∷ []
+
+-- what the clock of an air at a bit rate reads: seconds since Modified Julian Date 0, and bits
+abbrev pub clock_fields : Clock → List (List ℕ)
+clock_fields clock = codes "clock" ∷ decimal clock.moment ∷ decimal clock.bits ∷ []
 
 -- a key, and the version that it was last given
 abbrev pub version_fields : Key → ℕ → List (List ℕ)
@@ -43,6 +49,18 @@ count_in field = if is_count field then Some (value_from 0 field) else None
 abbrev pub count_of : List (List ℕ) → Option ℕ
 count_of (word ∷ count ∷ []) = if is_word (codes "checkpoint") word then count_in count else None
 count_of fields = None
+
+-- `clock,MOMENT,BITS`
+abbrev pub clock_in : List ℕ → List ℕ → Option KeptClock
+clock_in moment bits =
+    option_and_then
+    (λ m. option_map (λ b. record { moment = m; bits = b }) (number_in 0 99999999 bits))
+    (count_in moment)
+
+abbrev pub clock_of : List (List ℕ) → Option KeptClock
+clock_of (word ∷ moment ∷ bits ∷ []) =
+    if is_word (codes "clock") word then clock_in moment bits else None
+clock_of fields = None
 
 -- a key that sub-tables can have
 abbrev pub listed : Key → Option Key
@@ -82,7 +100,7 @@ section_of fields = None
 -- PID,NEXT
 abbrev pub counter_of : List (List ℕ) → Option Part
 counter_of (pid ∷ next ∷ []) =
-    option_and_then (λ p. option_map (λ n. Counter (record { pid = p; next = n })) (number_in 0 15 next)) (number_in 0 8190 pid)
+    option_and_then (λ p. option_map (λ n. Counter (record { pid = p; next = n })) (number_in 0 15 next)) (number_in 0 8191 pid)
 counter_of fields = None
 
 -- no field behind the word

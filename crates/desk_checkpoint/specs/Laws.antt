@@ -1,5 +1,5 @@
 -- The law of checkpoints: what is written is read back.
-use Rattle.std.specs.Prelude.{◌≡◌, ◌≢◌, ◌<◌, ◌≤◌, ◌^◌, ◌++◌, ℕ, true, List, [], Ok, length, map}
+use Rattle.std.specs.Prelude.{◌≡◌, ◌≢◌, ◌<◌, ◌≤◌, ◌^◌, ◌++◌, ℕ, true, List, [], Option, Some, None, Ok, length, map}
 use Rattle.std.specs.List.{AllByRecursion}
 use Rattle.std.specs.List.Sorted.{IsStrictlyIncreasing}
 use Rattle.section_codec.specs.declared.table.Key.{Key}
@@ -7,6 +7,8 @@ use Rattle.section_codec.specs.declared.table.NumberedBody.{NumberedBody}
 use Rattle.section_codec.specs.Contents.{Ascend}
 use Rattle.version_book.specs.Book.{GivenVersion, GivenVersions, AreOrdered, given_entries}
 use Rattle.ts_packets.specs.declared.pid_counter.PidCounter.{PidCounter}
+use Rattle.timed_player.specs.declared.clock.Clock.{Clock}
+use Rattle.timed_player.specs.Clock.{reads}
 use Rattle.mux_model.specs.declared.mux.Mux.{Mux}
 use Rattle.mux_model.specs.Fed.{IsNamed, fed_services}
 use Rattle.mux_model.specs.Sound.{IsSound}
@@ -18,8 +20,8 @@ use Rattle.input_lines.specs.Ahead.{Tail}
 use Rattle.command_text.specs.Back.{IsReadableCommand, ahead_of}
 use Rattle.checkpoint_laws.specs.Steps.{checkpoint_steps, folded}
 use Rattle.section_codec.specs.Keys.{is_listed}
-use Rattle.desk_checkpoint.specs.Checkpoints.{Checkpoint}
-use Rattle.desk_checkpoint.specs.Reads.{checkpoint_in}
+use Rattle.desk_checkpoint.specs.Checkpoints.{Checkpoint, last_pid}
+use Rattle.desk_checkpoint.specs.Reads.{checkpoint_in, no_clock}
 use Rattle.desk_checkpoint.specs.Text.{checkpoint_text}
 
 -- ---- what is written
@@ -57,24 +59,42 @@ pub record AreKeysWritten (keys : GivenVersions) : Type 0 where
   pub ordered : AreOrdered keys
   pub each : AllByRecursion IsKeyWritten keys
 
--- a counter of 4 bits of a PID that is not that of null packets (ISO/IEC 13818-1, 2.4.3.3)
-pub record IsCounterWritten (counter : PidCounter) : Type 0 where
-  pub pid : counter.pid ≤ 8190
+-- a counter of 4 bits of a PID that is not that of null packets, but at a bit rate
+-- (ISO/IEC 13818-1, 2.4.3.3)
+pub record IsCounterWritten (rate : Option ℕ) (counter : PidCounter) : Type 0 where
+  pub pid : counter.pid ≤ last_pid rate
   pub next : counter.next < 16
 
 -- such counters, in ascending order of PIDs
-pub record AreCountersWritten (counters : List PidCounter) : Type 0 where
+pub record AreCountersWritten (rate : Option ℕ) (counters : List PidCounter) : Type 0 where
   pub ascend : IsStrictlyIncreasing (map (λ (c : PidCounter). c.pid) counters)
-  pub each : AllByRecursion IsCounterWritten counters
+  pub each : AllByRecursion (IsCounterWritten rate) counters
+
+-- a clock whose moment has at most 18 digits, and whose bits have at most eight
+pub record IsShortClock (clock : Clock) : Type 0 where
+  pub moment : clock.moment < 10 ^ 18
+  pub bits : clock.bits ≤ 99999999
+
+-- where there is a bit rate, since without one no clock is written
+abbrev pub IsClockWritten : Option ℕ → Clock → Type 0
+IsClockWritten None clock = Unit {0}
+IsClockWritten (Some rate) clock = IsShortClock clock
 
 -- ---- what is read
 
--- the checkpoint of a journal, with these keys and counters
-pub record IsCheckpointOf (mux : Mux) (journal : List Entry) (keys : GivenVersions) (counters : List PidCounter) (cp : Checkpoint) : Type 0 where
+-- the clock, which stands at 0 where there is no bit rate
+abbrev pub clock_at : Option ℕ → Clock → Clock
+clock_at None clock = no_clock
+clock_at (Some rate) clock = clock
+
+-- the checkpoint of a journal, with these keys and counters and this clock
+pub record IsCheckpointOf (mux : Mux) (journal : List Entry) (keys : GivenVersions)
+    (counters : List PidCounter) (clock : Clock) (cp : Checkpoint) : Type 0 where
   pub count : cp.count ≡ publishes journal
   pub desk : (let d : DeskState = record { mux = mux; entries = folded mux journal } in cp.desk ≡ d)
   pub keys_are : given_entries cp.keys ≡ keys
   pub counters_are : cp.counters ≡ counters
+  pub clock_is : cp.clock ≡ clock_at mux.rate clock
 
 -- ---- laws
 
@@ -88,6 +108,10 @@ StepsAreReadable =
 abbrev pub CheckpointsReadBack : Type 0
 CheckpointsReadBack =
     (mux : Mux) (journal : List Entry) (keys : GivenVersions) (counters : List PidCounter)
-    → CanBeFolded mux journal → AreKeysWritten keys → AreCountersWritten counters → (behind : List ℕ) (tail : Tail)
-    → let text = checkpoint_text (publishes journal) (checkpoint_steps mux journal) keys counters in
-    (cp : Checkpoint) × (checkpoint_in mux (ahead_of 1 (text ++ behind) tail) ≡ Ok cp) × IsCheckpointOf mux journal keys counters cp
+    (clock : Clock)
+    → CanBeFolded mux journal → AreKeysWritten keys → AreCountersWritten mux.rate counters
+    → IsClockWritten mux.rate clock → (behind : List ℕ) (tail : Tail)
+    → let text = checkpoint_text (publishes journal) mux.rate (reads clock)
+    (checkpoint_steps mux journal) keys counters in
+    (cp : Checkpoint) × (checkpoint_in mux (ahead_of 1 (text ++ behind) tail) ≡ Ok cp)
+    × IsCheckpointOf mux journal keys counters clock cp

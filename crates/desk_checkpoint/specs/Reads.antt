@@ -1,14 +1,15 @@
 -- The checkpoint that the lines ahead are.
-use Rattle.std.specs.Prelude.{◌≡◌, ℕ, Bool, zero, suc, List, drop, length, Option, Some, None, Ok, Err, Result, option_and_then, option_map, if◌then◌else◌}
-use Rattle.si_causes.specs.declared.stop.ReadStop.TheVariants.{Failed, TooLong as Overlong}
+use Rattle.std.specs.Prelude.{ℕ, Bool, zero, suc, List, length, Option, Some, None, Ok, Err, Result, option_and_then, option_map, if◌then◌else◌}
 use Rattle.input_lines.specs.Fields.{record_of}
-use Rattle.input_lines.specs.Ahead.{Ahead, Found, Came, Row, Stopped, Stop, NoCommand, TooLong, and_then, first_row, missing_at, on_line}
+use Rattle.input_lines.specs.Ahead.{Ahead, Found, Came, Stopped, Stop, NoCommand, and_then, first_row, missing_at, on_line}
+use Rattle.timed_player.specs.declared.clock.Clock.{Clock}
 use Rattle.mux_model.specs.declared.mux.Mux.{Mux}
 use Rattle.journal_model.specs.Steps.{Command}
 use Rattle.script_lines.specs.Script.{read_command}
 use Rattle.desk_checkpoint.specs.declared.part.Part.{Part}
 use Rattle.desk_checkpoint.specs.declared.part.Part.TheVariants.{Step as step}
-use Rattle.desk_checkpoint.specs.Fields.{begins_step, count_of, part_of}
+use Rattle.desk_checkpoint.specs.declared.head.Head.{Head}
+use Rattle.desk_checkpoint.specs.Fields.{begins_step, clock_of, count_of, part_of}
 use Rattle.desk_checkpoint.specs.Checkpoints.{Checkpoint, counted, is_end, steps_may_come, with_part}
 
 -- ---- parts
@@ -52,14 +53,36 @@ upto (suc n) cp lines = on_part (upto n) cp (first_part (steps_may_come cp) line
 abbrev pub read_on : Checkpoint → Ahead → Result Checkpoint Stop
 read_on cp lines = upto (length lines.rows) cp lines
 
--- the line `checkpoint,COUNT`, and the parts behind it up to the end
-abbrev pub behind_count : Mux → Found ℕ → Result Checkpoint Stop
-behind_count mux (Stopped stop) = Err stop
-behind_count mux (Came count behind) = read_on (counted mux count) behind
-
+-- the line `checkpoint,COUNT`
 abbrev pub count_line : Ahead → Found ℕ
 count_line lines = and_then (first_row missing_at lines) (λ row behind. on_line row.0 (option_and_then count_of (record_of row.1)) behind)
 
+-- the line `clock,MOMENT,BITS`
+abbrev pub clock_line : Ahead → Found Clock
+clock_line lines =
+    and_then (first_row missing_at lines)
+    (λ row behind. on_line row.0 (option_and_then clock_of (record_of row.1)) behind)
+
+-- the clock's line where there is a bit rate; where there is none, the clock stands at 0
+abbrev pub no_clock : Clock
+no_clock = record { moment = 0; bits = 0 }
+
+abbrev pub clock_ahead : Option ℕ → Ahead → Found Clock
+clock_ahead None lines = Came no_clock lines
+clock_ahead (Some rate) lines = clock_line lines
+
+-- what stands before the parts, at this bit rate or without one
+abbrev pub head_ahead : Option ℕ → Ahead → Found Head
+head_ahead rate lines =
+    and_then (count_line lines)
+    (λ count behind. and_then (clock_ahead rate behind)
+    (λ clock more. Came (record { count = count; clock = clock }) more))
+
+-- and the parts behind it up to the end
+abbrev pub behind_head : Mux → Found Head → Result Checkpoint Stop
+behind_head mux (Stopped stop) = Err stop
+behind_head mux (Came head behind) = read_on (counted mux head.count head.clock) behind
+
 -- The checkpoint of a multiplex that the lines ahead are, up to its end; or the stop, at the first line that may not stand there.
 abbrev pub checkpoint_in : Mux → Ahead → Result Checkpoint Stop
-checkpoint_in mux lines = behind_count mux (count_line lines)
+checkpoint_in mux lines = behind_head mux (head_ahead mux.rate lines)

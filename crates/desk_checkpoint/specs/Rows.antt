@@ -7,6 +7,8 @@ use Rattle.hex.proofs.OnLiterals.{hex_on_literals}
 use Rattle.si_time.specs.Moments.{moments_compute}
 use Rattle.section_codec.specs.declared.table.Key.{Key}
 use Rattle.section_codec.specs.declared.table.NumberedBody.{NumberedBody}
+use Rattle.air_paced.specs.Clock.{Clock}
+use Rattle.mux_model.specs.declared.mux.Mux.{Mux}
 use Rattle.mux_model.specs.Rows.{row_mux}
 use Rattle.desk_core.specs.Desks.{fresh}
 use Rattle.input_lines.specs.Fields.{fields_compute}
@@ -14,12 +16,14 @@ use Rattle.input_lines.specs.Ahead.{Ends, NoCommand}
 use Rattle.command_text.specs.Back.{ahead_of}
 use Rattle.checkpoint_laws.specs.Steps.{checkpoint_steps}
 use Rattle.desk_checkpoint.specs.Fields.{part_of}
-use Rattle.desk_checkpoint.specs.Checkpoints.{counted}
-use Rattle.desk_checkpoint.specs.Reads.{checkpoint_in}
+use Rattle.desk_checkpoint.specs.Reads.{checkpoint_in, no_clock}
 use Rattle.desk_checkpoint.specs.Text.{checkpoint_text, counter_text, key_text}
 
+abbrev at_zero : Clock
+at_zero = record { moment = 0; bits = 0 }
+
 -- the checkpoint of a journal without an entry
-row_text : checkpoint_text 0 (checkpoint_steps row_mux []) [] []
+row_text : checkpoint_text 0 None at_zero (checkpoint_steps row_mux []) [] []
     ≡ codes "checkpoint,0\n0,feed,1,clear,101\n0,feed,1,name,101,Acme,One\n0,tick,1970-01-01T00:00:00Z\nend\n"
 unfolding digits moments_compute fields_text
 row_text = refl
@@ -44,6 +48,7 @@ row_read : checkpoint_in row_mux (ahead_of 1 (codes "checkpoint,0\nversion,0,0,1
       number = 1;
       counters = record { pid = 17; next = 5 } ∷ [];
       pid = 18;
+      clock = no_clock;
     })
 unfolding fields_compute part_of hex_on_literals
 row_read = refl
@@ -60,3 +65,46 @@ row_empty = refl
 row_unpublished : checkpoint_in row_mux (ahead_of 1 (codes "checkpoint,1\nend\n") (Ends 3)) ≡ Err (NoCommand 2)
 unfolding fields_compute part_of
 row_unpublished = refl
+
+-- ---- at a bit rate
+
+abbrev rate_mux : Mux
+rate_mux = record row_mux { rate = Some 1000000 }
+
+row_timed : checkpoint_text 0 (Some 1000000) (record { moment = 3506716801; bits = 4000 })
+    (checkpoint_steps rate_mux []) [] (record { pid = 8191; next = 5 } ∷ [])
+    ≡ codes "checkpoint,0\nclock,3506716801,4000\n0,feed,1,clear,101\n0,feed,1,name,101,Acme,One\n0,tick,1970-01-01T00:00:00Z\ncounter,8191,5\nend\n"
+unfolding digits moments_compute fields_text
+row_timed = refl
+
+-- the clock stands in the second line, and null packets may have a counter
+row_clock : checkpoint_in rate_mux (ahead_of 1 (codes "checkpoint,0\nclock,3506716801,4000\ncounter,8191,5\nend\n") (Ends 5))
+    ≡ Ok (record {
+      count = 0;
+      desk = fresh rate_mux;
+      keys = [];
+      current = None;
+      number = 0;
+      counters = record { pid = 8191; next = 5 } ∷ [];
+      pid = 8192;
+      clock = record { moment = 3506716801; bits = 4000 };
+    })
+unfolding fields_compute part_of
+row_clock = refl
+
+-- no clock; bits of nine digits; a clock without a bit rate; and null packets without one
+row_no_clock : checkpoint_in rate_mux (ahead_of 1 (codes "checkpoint,0\nend\n") (Ends 3)) ≡ Err (NoCommand 2)
+unfolding fields_compute
+row_no_clock = refl
+
+row_bits : checkpoint_in rate_mux (ahead_of 1 (codes "checkpoint,0\nclock,0,100000000\nend\n") (Ends 4)) ≡ Err (NoCommand 2)
+unfolding fields_compute
+row_bits = refl
+
+row_unasked : checkpoint_in row_mux (ahead_of 1 (codes "checkpoint,0\nclock,0,0\nend\n") (Ends 4)) ≡ Err (NoCommand 2)
+unfolding fields_compute part_of
+row_unasked = refl
+
+row_null : checkpoint_in row_mux (ahead_of 1 (codes "checkpoint,0\ncounter,8191,5\nend\n") (Ends 4)) ≡ Err (NoCommand 2)
+unfolding fields_compute part_of
+row_null = refl

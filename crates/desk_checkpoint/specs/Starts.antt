@@ -6,9 +6,9 @@ use Rattle.input_lines.specs.declared.stop.EditStop.{EditStop}
 use Rattle.input_lines.specs.declared.stop.EditStop.TheVariants as edits
 use Rattle.input_lines.specs.Ahead.{Stop, NoCommand, TooLong}
 use Rattle.air_model.specs.Air.{Aired}
-use Rattle.carousel_player.specs.Playing.{AtEnd, AreKeptOf}
+use Rattle.cycle_player.specs.Sending.{AtEnd, AreKeptAt}
 use Rattle.mux_model.specs.declared.mux.Mux.{Mux}
-use Rattle.journal_air.specs.Air.{mux_form}
+use Rattle.air_sending.specs.OnAir.{IsPlayerOf}
 use Rattle.checkpoint_laws.specs.Steps.{shift_of}
 use Rattle.desk_checkpoint.specs.declared.start.CheckStop.{CheckStop}
 use Rattle.desk_checkpoint.specs.declared.start.CheckStop.TheVariants.{Line, Read, Memory}
@@ -46,17 +46,18 @@ HasCheckCause before now (Err (Read Failed)) = Rose before now
 HasCheckCause before now result = Unit {0}
 
 -- A start from a checkpoint: the desk after its steps, the shift of its count, and a player that stands for each air whose keys and
--- counters are those of the checkpoint.
+-- counters, and at a bit rate clock, are those of the checkpoint.
 pub record StartsFrom (cp : Checkpoint) (start : Start) : Type 0 where
   pub desk : start.desk ≡ cp.desk
   pub shift : start.shift ≡ shift_of cp.count
-  pub player : (xs : List Aired) → AreKeptOf xs cp.keys cp.counters → AtEnd xs start.player
+  pub player : (xs : List Aired) → AreKeptAt cp.desk.mux.rate xs cp.keys cp.counters cp.clock
+      → AtEnd xs start.player
 
--- whatever was read: the desk is one of the multiplex, and the player is at its end and has the form of its cycles
+-- whatever was read: the desk is one of the multiplex, and so is the player, which is at its end
 pub record IsStart (mux : Mux) (start : Start) : Type 0 where
   pub mux_is : start.desk.mux ≡ mux
   pub ended : start.player.left ≡ []
-  pub form : start.player.form ≡ mux_form mux
+  pub player_of : IsPlayerOf mux start.player
   pub shift : start.shift < 10 ^ 18
 
 -- what reading a checkpoint gives, where the text is told

@@ -1,5 +1,5 @@
 -- The text of a checkpoint.
-use Rattle.std.specs.Prelude.{ℕ, ◌+◌, ◌++◌, Bool, true, false, List, flat_map, map, codes}
+use Rattle.std.specs.Prelude.{ℕ, ◌+◌, ◌++◌, Bool, true, false, List, [], Option, Some, None, flat_map, map, codes}
 use Rattle.std.specs.List.{AllByRecursion}
 use Rattle.table_entries.specs.Loops.{AreBytes}
 use Rattle.section_codec.specs.declared.table.Key.{Key}
@@ -7,7 +7,8 @@ use Rattle.section_codec.specs.declared.table.NumberedBody.{NumberedBody}
 use Rattle.version_book.specs.Book.{GivenVersion, GivenVersions}
 use Rattle.ts_packets.specs.declared.pid_counter.PidCounter.{PidCounter}
 use Rattle.ts_packets.specs.PidCounters.{kept_from}
-use Rattle.carousel_player.specs.Playing.{Playing}
+use Rattle.air_paced.specs.Clock.{Clock}
+use Rattle.cycle_player.specs.Sending.{Sending}
 use Rattle.guide_model.specs.declared.event.Event.{Event}
 use Rattle.guide_model.specs.declared.guide.ServiceGuide.{ServiceGuide}
 use Rattle.mux_model.specs.Fed.{FedService, feed_of}
@@ -22,7 +23,7 @@ use Rattle.command_text.specs.Lines.{line_text}
 use Rattle.command_text.specs.Commands.{command_text}
 use Rattle.checkpoint_laws.specs.Items.{event_item, filling, refilling}
 use Rattle.checkpoint_laws.specs.Steps.{steps_of}
-use Rattle.desk_checkpoint.specs.Fields.{count_fields, counter_fields, section_fields, version_fields}
+use Rattle.desk_checkpoint.specs.Fields.{clock_fields, count_fields, counter_fields, section_fields, version_fields}
 
 abbrev pub step_text : Command → List ℕ
 step_text command = command_text command.0 command.1
@@ -65,10 +66,18 @@ HasByteBodies keys = AllByRecursion HasByteContent keys
 abbrev pub counter_text : PidCounter → List ℕ
 counter_text counter = line_text (counter_fields counter)
 
--- the parts of a checkpoint, each on its lines: how many publications there are, steps, keys, counters, and the end
-abbrev pub checkpoint_text : ℕ → List Command → GivenVersions → List PidCounter → List ℕ
-checkpoint_text count steps keys counters =
-    line_text (count_fields count) ++ steps_text steps ++ flat_map key_text keys ++ flat_map counter_text counters ++ codes "end\n"
+-- the clock, which is written where there is a bit rate
+abbrev pub clock_text : Option ℕ → Clock → List ℕ
+clock_text None clock = []
+clock_text (Some rate) clock = line_text (clock_fields clock)
+
+-- the parts of a checkpoint, each on its lines: how many publications there are, the clock, steps,
+-- keys, counters, and the end
+abbrev pub checkpoint_text : ℕ → Option ℕ → Clock → List Command → GivenVersions → List PidCounter
+    → List ℕ
+checkpoint_text count rate clock steps keys counters =
+    line_text (count_fields count) ++ clock_text rate clock ++ steps_text steps
+    ++ flat_map key_text keys ++ flat_map counter_text counters ++ codes "end\n"
 
 -- the steps that a desk leaves after a checkpoint whose count was greater by the shift
 abbrev pub desk_steps : ℕ → DeskState → List Command
@@ -76,7 +85,9 @@ desk_steps shift desk =
     let count = publishes desk.entries in
     steps_of desk.mux (shift + count) (publication desk.mux desk.entries count) (guide_after desk.mux desk.entries)
 
--- the checkpoint of a desk and of a player at its end
-abbrev pub start_text : ℕ → DeskState → Playing → List ℕ
+-- the checkpoint of a desk and of a player at its end, with the clock where the desk's multiplex
+-- has a bit rate
+abbrev pub start_text : ℕ → DeskState → Sending → List ℕ
 start_text shift desk player =
-    checkpoint_text (shift + publishes desk.entries) (desk_steps shift desk) player.book (kept_from 0 player.counters)
+    checkpoint_text (shift + publishes desk.entries) desk.mux.rate player.clock
+    (desk_steps shift desk) player.book (kept_from 0 player.counters)

@@ -2,10 +2,11 @@
 ghost use Rattle.std.specs.Prelude.{◌≡◌, ◌<◌, ◌^◌, true, IfOk, IfSome, option_map};
 ghost use Rattle.std.specs.List.{list_all};
 ghost use Rattle.input_lines.specs.Numbers.{is_digit, value_from};
-ghost use Rattle.desk_checkpoint.specs.Fields.{begins_step, body_in, count_in, count_of, counter_of, end_of, is_count, is_lower_digit, key_in, part_of, section_of, version_of};
+ghost use Rattle.desk_checkpoint.specs.Fields.{begins_step, body_in, clock_of, count_in, count_of, counter_of, end_of, is_count, is_lower_digit, key_in, part_of, section_of, version_of};
 ghost use Rattle.desk_checkpoint.specs.Checkpoints.{is_end};
 ghost use Rattle.desk_checkpoint.specs.Parts.{IsFitPart};
 
+use cycle_player::Clock;
 use hex::FromHexError;
 use input_lines::{is_word, number, numeral};
 use journal_model::Step;
@@ -73,6 +74,21 @@ pub(crate) fn count_of(fields: &[Txt]) -> Option<u64>
         return None;
     }
     read_count(count.as_str())
+}
+
+/// The clock of `clock,MOMENT,BITS`: one to 18 digits, and 0 to 99,999,999.
+pub(crate) fn clock_of(fields: &[Txt]) -> Option<Clock>
+    ensures { result ≡ clock_of fields.now }
+{
+    let [word, moment, bits] = fields else {
+        return None;
+    };
+    if !is_word(word.as_str(), "clock") {
+        return None;
+    }
+    let moment = read_count(moment.as_str())?;
+    let bits = number(bits.as_str(), 0, 99_999_999)?;
+    Some(Clock { moment, bits })
 }
 
 // PID,TABLE,EXT,STREAM,NETWORK
@@ -156,7 +172,7 @@ fn read_counter(fields: &[Txt]) -> Option<Part>
     let [pid, next] = fields else {
         return None;
     };
-    let pid = number(pid.as_str(), 0, 8190)?;
+    let pid = number(pid.as_str(), 0, 8191)?;
     let next = number(next.as_str(), 0, 15)?;
     Some(Part::Counter(PidCounter {
         pid: pid as u16,

@@ -1,13 +1,13 @@
 // The parts of a checkpoint on the lines of a reader.
-ghost use Rattle.std.specs.Prelude.{◌<◌, ◌^◌, IfOk, OnOk, option_and_then, option_map};
+ghost use Rattle.std.specs.Prelude.{◌<◌, IfOk, OnOk, option_map};
 ghost use Rattle.si_causes.specs.Reading.{room};
 ghost use Rattle.input_lines.specs.Fields.{record_of};
 ghost use Rattle.input_lines.specs.Reads.{ReadOf, Says};
-ghost use Rattle.desk_checkpoint.specs.Fields.{count_of, part_of};
+ghost use Rattle.desk_checkpoint.specs.Fields.{part_of};
 ghost use Rattle.desk_checkpoint.specs.Parts.{IsFitPart};
-ghost use Rattle.desk_checkpoint.specs.Reads.{count_line, first_part, part_on};
+ghost use Rattle.desk_checkpoint.specs.Reads.{first_part, part_on};
 
-use crate::part::{Part, begins_step, count_of, read_part};
+use crate::part::{Part, begins_step, read_part};
 use input_lines::{EditStop, LineFields, fields, next_record_line};
 use script_lines::read_command;
 use si_causes::{LineReader, Source};
@@ -76,34 +76,5 @@ pub(crate) fn next_part<S: Source>(
     match fields_on(alloc, at, lines.line()) {
         Ok(fields) => part_on(alloc, step_may, at, &fields, lines),
         Err(stop) => Err(stop),
-    }
-}
-
-// The count that line `at` says.
-fn count_on(alloc: Global, at: u64, line: &[u8]) -> Result<u64, EditStop>
-    ensures says { Says at (option_and_then count_of (record_of line.now)) result }
-    ensures most { IfOk result (λ count. count < 10 ^ 18) }
-{
-    let Some(fields) = fields(alloc, line)? else {
-        return Err(EditStop::NoCommand(at));
-    };
-    match count_of(fields.as_slice()) {
-        Some(count) => Ok(count),
-        None => Err(EditStop::NoCommand(at)),
-    }
-}
-
-/// The count of the line with which a checkpoint begins.
-pub(crate) fn next_count<S: Source>(
-    alloc: Global,
-    lines: &mut LineReader<S>,
-) -> Result<u64, EditStop>
-    ensures reads { ReadOf S.left S.faults S.same count_line lines.old lines.new result }
-    ensures most { IfOk result (λ count. count < 10 ^ 18) }
-{
-    match next_record_line(lines) {
-        Ok(Some(at)) => count_on(alloc, at, lines.line()),
-        Ok(None) => Err(EditStop::NoCommand(lines.number() + 1)),
-        Err(stop) => Err(EditStop::Read(stop)),
     }
 }

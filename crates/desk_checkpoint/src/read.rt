@@ -6,8 +6,9 @@ ghost use Rattle.mux_model.specs.Sound.{IsSound};
 ghost use Rattle.desk_checkpoint.specs.Reads.{checkpoint_in, read_on};
 ghost use Rattle.desk_checkpoint.specs.Starts.{GivesCheckpoint, GivesRest, GivesStart, HasCheckCause, HasRestCause, IsStart};
 
+use crate::head::next_head;
 use crate::part::is_end;
-use crate::parts::{next_count, next_part};
+use crate::parts::next_part;
 use crate::reading::Reading;
 use crate::start::{CheckStop, Start, stop_of};
 use input_lines::EditStop;
@@ -55,27 +56,31 @@ fn read<S: Source>(alloc: Global, mux: Mux, lines: &mut LineReader<S>) -> Result
     ensures later { S.faults lines.old.source ≤ S.faults lines.new.source }
     ensures same { S.same lines.old.source lines.new.source }
 {
-    let count = match next_count(alloc, lines) {
-        Ok(count) => count,
+    let head = match next_head(alloc, mux.rate, lines) {
+        Ok(head) => head,
         Err(stop) => return Err(stop),
     };
-    let mut reading = Reading::open(alloc, mux, count)?;
+    let mut reading = Reading::open(alloc, mux, head)?;
     match read_on(alloc, &mut reading, lines) {
         Ok(()) => Ok(reading),
         Err(stop) => Err(stop),
     }
 }
 
-/// Reads a checkpoint of a multiplex from the lines of a reader, up to its line `end`; no line behind it is read. Its parts come in this
-/// order: `checkpoint,COUNT` with one to 18 digits; steps of caller 0, each of which a fresh desk of the multiplex does, with one publish
-/// where the count is above 0 and none where it is 0; keys in their order, each with a version and at least one section, whose numbers
-/// ascend; counters with ascending PIDs; and the end. The desk has done these steps, the shift is the count less 1, or 0, and the player
-/// is that of [`Player::resume`] with the multiplex's quota and offsets.
+/// Reads a checkpoint of a multiplex from the lines of a reader, up to its line `end`; no line after
+/// it is read. Its parts come in this order: `checkpoint,COUNT` with one to 18 digits; where the
+/// multiplex has a bit rate, and only there, `clock,MOMENT,BITS` with one to 18 digits and a number
+/// of 0 to 99,999,999; steps of caller 0, each of which a fresh desk of the multiplex does, with one
+/// publish where the count is above 0 and none where it is 0; keys in their order, each with a
+/// version and at least one section, whose numbers ascend; counters with ascending PIDs, that of
+/// null packets only at a bit rate; and the end. The desk has done these steps, the shift is the
+/// count less 1, or 0, and the player is that of [`CyclePlayer::resume`] with the multiplex's bit
+/// rate, quota and offsets.
 ///
 /// `Line` has the number of the first line that may not stand there, or, where the text ends before, that of the last line plus 1. `Read`
 /// comes as from [`LineReader::next`].
 ///
-/// [`Player::resume`]: carousel_player::Player::resume
+/// [`CyclePlayer::resume`]: cycle_player::CyclePlayer::resume
 pub fn read_checkpoint<S: Source>(
     alloc: Global,
     mux: Mux,

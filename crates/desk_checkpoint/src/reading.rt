@@ -1,5 +1,5 @@
 // A checkpoint that is being read.
-ghost use Rattle.std.specs.Prelude.{◌≡◌, ◌≤◌, ◌<◌, ◌^◌, ◌∷◌, ◌++◌, [], true, false, ◌&&◌, IfOk, OnOk, Option, Some, None, option_copied};
+ghost use Rattle.std.specs.Prelude.{◌≡◌, ◌≤◌, ◌<◌, ◌^◌, ◌∷◌, ◌++◌, [], true, false, ◌&&◌, nat_le, IfOk, OnOk, Option, Some, None, option_copied};
 ghost use Rattle.section_codec.specs.KeyOrder.{key_cmp};
 ghost use Rattle.version_book.specs.declared.key_version.KeyVersion.{KeyVersion as AKeyVersion};
 ghost use Rattle.mux_model.specs.Sound.{IsSound};
@@ -8,13 +8,14 @@ ghost use Rattle.journal_air.specs.Air.{mux_form};
 ghost use Rattle.journal_model.specs.Steps.{IsStepWithin};
 ghost use Rattle.checkpoint_laws.specs.Going.{is_taken};
 ghost use Rattle.desk_checkpoint.specs.Parts.{IsFitPart};
-ghost use Rattle.desk_checkpoint.specs.Checkpoints.{and_current, comes_behind, counted, is_nil, is_none, published_by, steps_may_come, whole, with_counter, with_part, with_section, with_step, with_version};
+ghost use Rattle.desk_checkpoint.specs.Checkpoints.{and_current, comes_behind, counted, is_nil, is_none, last_pid, published_by, steps_may_come, whole, with_counter, with_part, with_section, with_step, with_version};
 ghost use Rattle.desk_checkpoint.specs.Answers.{Answers};
 ghost use Rattle.desk_checkpoint.specs.Starts.{IsStart, StartsFrom};
 
+use crate::head::Head;
 use crate::part::Part;
 use crate::start::Start;
-use carousel_player::Player;
+use cycle_player::{Clock, CyclePlayer};
 use desk_core::Desk;
 use guide_model::Offsets;
 use journal_model::{Outcome, Reply, Step};
@@ -38,6 +39,7 @@ pub(crate) struct Reading {
     number: u16,
     counters: PidCounters,
     pid: u16,
+    clock: Clock,
 }
 
 impl Model for Reading {
@@ -54,6 +56,7 @@ impl Model for Reading {
       number = r.number;
       counters = r.counters;
       pid = r.pid;
+      clock = r.clock;
     } };
 
     ghost invariant = { λ r. IsReading (record {
@@ -64,6 +67,7 @@ impl Model for Reading {
       number = r.number;
       counters = r.counters;
       pid = r.pid;
+      clock = r.clock;
     }) r.published };
 }
 
@@ -98,6 +102,16 @@ fn published_by(published: u64, outcome: Outcome) -> u64
     }
 }
 
+// The last PID that may have a counter: that of null packets only at a bit rate.
+fn last_pid(rate: Option<u32>) -> u16
+    ensures { result ≡ last_pid rate }
+{
+    match rate {
+        None => 8190,
+        Some(_) => 8191,
+    }
+}
+
 // A key with one section more.
 fn and_section(mut key: KeyVersion, section: NumberedBody) -> Result<KeyVersion, AllocError>
     ensures { IfOk result (λ more. more ≡ record key { sections = key.sections ++ section ∷ [] }) }
@@ -114,16 +128,16 @@ impl Reading {
         self.current.is_none() && self.counters.is_empty()
     }
 
-    /// Nothing was read of the checkpoint but how many publications there were.
-    pub(crate) fn open(alloc: Global, mux: Mux, count: u64) -> Result<Reading, AllocError>
+    /// Nothing was read of the checkpoint but what stands before its parts.
+    pub(crate) fn open(alloc: Global, mux: Mux, head: Head) -> Result<Reading, AllocError>
         requires sound { IsSound mux }
-        requires most { count < 10 ^ 18 }
-        ensures { IfOk result (λ reading. reading ≡ counted mux count) }
+        requires most { head.count < 10 ^ 18 }
+        ensures { IfOk result (λ reading. reading ≡ counted mux head.count head.clock) }
     {
         let desk = Desk::open(alloc, mux)?;
         Ok(Reading {
             alloc,
-            count,
+            count: head.count,
             desk,
             published: 0,
             keys: KeyVersions::new(alloc),
@@ -131,6 +145,7 @@ impl Reading {
             number: 0,
             counters: PidCounters::new(alloc),
             pid: 0,
+            clock: head.clock,
         })
     }
 
@@ -208,12 +223,20 @@ impl Reading {
         Ok(true)
     }
 
+    // Whether a PID may have the next counter.
+    fn may_count(&self, pid: u16) -> bool
+        ensures { result
+            ≡ (nat_le self.now.pid pid && nat_le pid (last_pid self.now.desk.mux.rate)) }
+    {
+        self.pid <= pid && pid <= last_pid(self.desk.mux().rate)
+    }
+
     fn counter(&mut self, counter: PidCounter) -> Result<bool, AllocError>
         requires { IsFitPart (Part.Counter counter) }
         ensures answers { IfOk result (λ yes. Answers yes (with_counter self.old counter) self.new) }
         ensures mux { self.new.desk.mux ≡ self.old.desk.mux }
     {
-        if counter.pid < self.pid || !self.close()? {
+        if !self.may_count(counter.pid) || !self.close()? {
             return Ok(false);
         }
         self.counters.push(counter)?;
@@ -236,7 +259,8 @@ impl Reading {
         }
     }
 
-    /// What a head-end goes on from, with cycles of this quota and these offsets.
+    /// What a head-end goes on from, with cycles of this quota and these offsets, at the bit rate
+    /// of the multiplex where it has one.
     pub(crate) fn start(self, quota: u32, offsets: Offsets) -> Result<Start, AllocError>
         requires some { 1 ≤ quota }
         requires most { quota ≤ 10000 }
@@ -245,12 +269,14 @@ impl Reading {
         ensures start { mux_form self.desk.mux ≡ record { quota = quota; offsets = offsets }
             → IfOk result (IsStart self.desk.mux) }
     {
-        let player = Player::resume(
+        let player = CyclePlayer::resume(
             self.alloc,
+            self.desk.mux().rate,
             quota,
             offsets,
             self.keys,
             self.counters.as_slice(),
+            self.clock,
         )?;
         Ok(Start {
             desk: self.desk,

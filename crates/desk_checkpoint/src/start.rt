@@ -2,7 +2,7 @@
 ghost use Rattle.std.specs.Prelude.{◌≡◌};
 ghost use Rattle.desk_checkpoint.specs.Starts.{check_stop};
 
-use carousel_player::Player;
+use cycle_player::CyclePlayer;
 use desk_core::Desk;
 use input_lines::EditStop;
 use si_causes::ReadStop;
@@ -14,7 +14,7 @@ use std::alloc::AllocError;
 pub struct Start {
     pub desk: Desk,
     pub shift: u64,
-    pub player: Player,
+    pub player: CyclePlayer,
 }
 
 /// Why a checkpoint was not read: this line, from 1, is the first that may not stand there; the reader gives no more lines; or memory is

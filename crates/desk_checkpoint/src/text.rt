@@ -11,15 +11,15 @@ ghost use Rattle.journal_model.specs.Steps.{IsStepInWindow};
 ghost use Rattle.command_text.specs.Lines.{line_text};
 ghost use Rattle.checkpoint_laws.specs.Items.{event_item, filling, raw_rating};
 ghost use Rattle.checkpoint_laws.specs.Steps.{guide_steps, publication_steps};
-ghost use Rattle.desk_checkpoint.specs.Fields.{count_fields, version_fields};
+ghost use Rattle.desk_checkpoint.specs.Fields.{clock_fields, count_fields, version_fields};
 ghost use Rattle.desk_core.specs.Journal.{publishes};
-ghost use Rattle.ts_packets.specs.PidCounters.{kept_from};
+ghost use Rattle.timed_player.specs.Clock.{reads};
 ghost use Rattle.desk_checkpoint.specs.HandedOver.{HandsOver};
-ghost use Rattle.desk_checkpoint.specs.Text.{HasByteBodies, HasByteContent, counter_text, desk_steps, edits_of, feed_steps, key_text};
+ghost use Rattle.desk_checkpoint.specs.Text.{HasByteBodies, HasByteContent, clock_text, counter_text, desk_steps, edits_of, feed_steps, key_text};
 ghost use Rattle.desk_checkpoint.specs.Text.{put_text, section_text, service_text, start_text, step_text, steps_text};
 
-use carousel_player::Player;
 use command_text::{LineWriter, write_command};
+use cycle_player::{Clock, CyclePlayer, PlayerState};
 use desk_core::Desk;
 use guide_model::{Event, Guide, Rating, ServiceGuide};
 use journal_model::{Edit, Item, Length, RawRating, Stamp, Step};
@@ -42,6 +42,48 @@ fn put_count(alloc: Global, out: &mut Vec<u8>, count: u64) -> Result<(), AllocEr
     row.field(b"checkpoint")?;
     row.number(alloc, count)?;
     row.end(out)
+}
+
+// Appends the line of a clock.
+fn put_clock_line(alloc: Global, out: &mut Vec<u8>, clock: Clock) -> Result<(), AllocError>
+    ensures { OnOk result (out.new.items
+        ≡ out.old.items ++ line_text (clock_fields (reads clock))) }
+{
+    let mut row = LineWriter::open(alloc);
+    row.field(b"clock")?;
+    row.number(alloc, clock.moment)?;
+    row.number(alloc, u64::from(clock.bits))?;
+    row.end(out)
+}
+
+// Appends it where there is a bit rate.
+fn put_clock(
+    alloc: Global,
+    out: &mut Vec<u8>,
+    rate: Option<u32>,
+    clock: Clock,
+) -> Result<(), AllocError>
+    ensures { OnOk result (out.new.items ≡ out.old.items ++ clock_text rate (reads clock)) }
+{
+    match rate {
+        None => Ok(()),
+        Some(_) => put_clock_line(alloc, out, clock),
+    }
+}
+
+// Appends what stands before the parts of a checkpoint.
+fn put_head(
+    alloc: Global,
+    out: &mut Vec<u8>,
+    count: u64,
+    rate: Option<u32>,
+    clock: Clock,
+) -> Result<(), AllocError>
+    ensures { OnOk result (out.new.items
+        ≡ out.old.items ++ (line_text (count_fields count) ++ clock_text rate (reads clock))) }
+{
+    put_count(alloc, out, count)?;
+    put_clock(alloc, out, rate, clock)
 }
 
 // ---- steps
@@ -246,17 +288,24 @@ fn put_latest(
     put_publication(alloc, out, mux, latest)
 }
 
-// Appends the count of publications, and the steps of a desk.
-fn put_steps(alloc: Global, out: &mut Vec<u8>, desk: &Desk, shift: u64) -> Result<(), AllocError>
+// Appends the count of publications, the clock where there is a bit rate, and the steps of a desk.
+fn put_steps(
+    alloc: Global,
+    out: &mut Vec<u8>,
+    desk: &Desk,
+    shift: u64,
+    clock: Clock,
+) -> Result<(), AllocError>
     requires { shift < 10 ^ 18 }
     ensures { OnOk result (out.new.items ≡ out.old.items
-        ++ (line_text (count_fields (shift + publishes desk.now.entries)) ++ steps_text (desk_steps shift desk.now))) }
+        ++ (line_text (count_fields (shift + publishes desk.now.entries))
+        ++ clock_text desk.now.mux.rate (reads clock) ++ steps_text (desk_steps shift desk.now))) }
 {
     let mux = desk.mux();
     let latest = desk.latest()?;
     prove!(latest.number <= desk.entries().len() as u64);
     let count = shift + latest.number;
-    put_count(alloc, out, count)?;
+    put_head(alloc, out, count, mux.rate, clock)?;
     put_latest(alloc, out, mux, count, &latest.guide)?;
     let draft = desk.draft()?;
     put_guide(alloc, out, mux, &draft, true)
@@ -347,44 +396,51 @@ fn put_counters(alloc: Global, out: &mut Vec<u8>, counters: &[PidCounter]) -> Re
     Ok(())
 }
 
-// Appends what a player goes on from.
-fn put_player(alloc: Global, out: &mut Vec<u8>, player: &Player) -> Result<(), AllocError>
-    requires { player.now.left ≡ [] }
+// Appends what a player goes on from, but for its clock.
+fn put_state(alloc: Global, out: &mut Vec<u8>, state: &PlayerState) -> Result<(), AllocError>
     ensures text { OnOk result (out.new.items ≡ out.old.items
-        ++ (flat_map key_text player.now.book ++ flat_map counter_text (kept_from 0 player.now.counters))) }
-    ensures handed { OnOk result (HandsOver player.now) }
+        ++ (flat_map key_text (given_entries state.now.versions)
+        ++ flat_map counter_text state.now.counters)) }
+    ensures bytes { OnOk result (HasByteBodies (given_entries state.now.versions)) }
 {
-    let (keys, counters) = player.kept()?;
-    put_keys(alloc, out, keys.as_slice())?;
-    put_counters(alloc, out, counters.as_slice())
+    put_keys(alloc, out, state.versions.as_slice())?;
+    put_counters(alloc, out, state.counters.as_slice())
 }
 
 // ---- a checkpoint
 
 // A checkpoint in a list of its own.
-fn text_of(alloc: Global, desk: &Desk, shift: u64, player: &Player) -> Result<Vec<u8>, AllocError>
+fn text_of(
+    alloc: Global,
+    desk: &Desk,
+    shift: u64,
+    player: &CyclePlayer,
+) -> Result<Vec<u8>, AllocError>
     requires shift { shift < 10 ^ 18 }
     requires at_end { player.now.left ≡ [] }
     ensures text { IfOk result (λ text. text.items ≡ start_text shift desk.now player.now) }
     ensures handed { OnOk result (HandsOver player.now) }
 {
+    let state = player.kept()?;
     let mut text = Vec::new(alloc);
-    put_steps(alloc, &mut text, desk, shift)?;
-    put_player(alloc, &mut text, player)?;
+    put_steps(alloc, &mut text, desk, shift, state.clock)?;
+    put_state(alloc, &mut text, &state)?;
     text.extend_from_slice(b"end\n")?;
     Ok(text)
 }
 
-/// Appends the checkpoint of a desk and of a player at its end, where the numbers of the desk's publications are less by
-/// the shift than those of the journal that goes on: how many publications there are; the steps that make the latest of
-/// them, where there is one, and then what stands; each key that an airing carried, or that was handed in, with its last
-/// version and content; the continuity counter of each PID that had a packet, or was handed in (ISO/IEC 13818-1,
-/// 2.4.3.3); and the end. Want of memory leaves `out` with what it had.
+/// Appends the checkpoint of a desk and of a player at its end, where the numbers of the desk's
+/// publications are less by the shift than those of the journal that goes on: how many publications
+/// there are; where the desk's multiplex has a bit rate, what the player's clock reads; the steps
+/// that make the latest publication, where there is one, and then what stands; each key that an
+/// airing carried, or that was handed in, with its last version and content; the continuity counter
+/// of each PID that had a packet, or was handed in (ISO/IEC 13818-1, 2.4.3.3); and the end. Want of
+/// memory leaves `out` with what it had.
 pub fn write_checkpoint(
     alloc: Global,
     desk: &Desk,
     shift: u64,
-    player: &Player,
+    player: &CyclePlayer,
     out: &mut Vec<u8>,
 ) -> Result<(), AllocError>
     requires shift { shift < 10 ^ 18 }

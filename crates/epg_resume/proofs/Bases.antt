@@ -1,27 +1,26 @@
 -- From which desks a run goes on: one that was asked nothing, and one that did the steps of a checkpoint.
 use Rattle.std.proofs.Common.{◌≡◌, ℕ, true, false, List, [], ◌∷◌, ◌++◌, refl, sym, ap, ◌∙◌, subst, map, append-nil}
-use Rattle.std.specs.Prelude.{Option}
+use Rattle.std.specs.Prelude.{Option, Some, None}
 use Rattle.std.specs.List.{AllByRecursion}
 use Rattle.si_lists.proofs.Lists.{all_at}
 use Rattle.si_causes.proofs.CauseFacts.{Appends-nothing}
 use Rattle.air_model.specs.Air.{Aired}
-use Rattle.carousel_player.specs.Playing.{AtEnd}
+use Rattle.cycle_player.specs.Sending.{AtEnd}
 use Rattle.mux_model.specs.declared.mux.Mux.{Mux}
 use Rattle.mux_model.specs.Sound.{IsSound}
 use Rattle.si_time.specs.declared.moment.Moment.{Moment}
-use Rattle.journal_model.specs.declared.step.Step.{Step}
 use Rattle.journal_model.specs.declared.step.Step.TheVariants.{Swap}
-use Rattle.journal_model.specs.declared.step.Outcome.{Outcome}
 use Rattle.journal_model.specs.declared.step.Entry.{Entry}
 use Rattle.desk_core.specs.Journal.{Legal, LegalAfter, journal_after, outcome_of, publishes}
 use Rattle.desk_core.proofs.JournalFacts.{journal_legal}
-use Rattle.journal_air.specs.Air.{airing_at, airings, mux_form}
+use Rattle.cycle_player.specs.Airs.{AreMadeAt}
+use Rattle.journal_air.specs.Air.{airing_at, airings}
 use Rattle.checkpoint_laws.specs.Steps.{checkpoint_steps, folded, shift_of}
 use Rattle.checkpoint_laws.specs.Going.{is_taken}
 use Rattle.checkpoint_laws.proofs.GoFacts.{journals_alike}
 use Rattle.checkpoint_laws.proofs.FoldFacts.{goes_on, steps_taken}
 use Rattle.checkpoint_laws.proofs.AirFacts.{air_goes_on, no_swaps}
-use Rattle.headend_jobs.specs.OnAir.{HasAired}
+use Rattle.air_sending.specs.OnAir.{HasAired, IsPlayerOf}
 use Rattle.desk_checkpoint.specs.declared.start.Start.{Start}
 use Rattle.epg_resume.proofs.GoingOn.{IsBase}
 
@@ -69,11 +68,15 @@ folded_base mux journal sound legal =
 pub nothing_folded : (mux : Mux) (journal : List Entry) → IsSound mux → Legal mux journal → airings mux (folded mux journal) ≡ []
 nothing_folded mux journal sound legal = (let short = folded mux journal in ap (λ (l : List (ℕ × Moment)). map (airing_at mux short) l) (no_swaps short (steps_taken mux journal sound legal)))
 
+none_made : (rate : Option ℕ) (earlier : List Aired) → AreMadeAt rate earlier []
+none_made None earlier = tt
+none_made (Some rate) earlier = tt
+
 -- behind earlier cycles, a start that has put nothing on air has aired nothing
-pub begun_aired : (earlier : List Aired) (start : Start) (w : Option (List ℕ)) → airings start.desk.mux start.desk.entries ≡ [] → AtEnd earlier start.player → start.player.form ≡ mux_form start.desk.mux
+pub begun_aired : (earlier : List Aired) (start : Start) (w : Option (List ℕ)) → airings start.desk.mux start.desk.entries ≡ [] → AtEnd earlier start.player → IsPlayerOf start.desk.mux start.player
     → HasAired earlier start.desk start.player w w
-begun_aired earlier start w none end form = (
+begun_aired earlier start w none end player_of = (
   [],
-  record { at_end = subst (λ (l : List Aired). AtEnd l start.player) (sym (append-nil earlier)) end; airings_are = sym none; made = tt; form = form },
+  record { at_end = subst (λ (l : List Aired). AtEnd l start.player) (sym (append-nil earlier)) end; airings_are = sym none; made = none_made start.desk.mux.rate earlier; player_of = player_of },
   Appends-nothing w,
 )

@@ -1,5 +1,5 @@
 -- What a run leaves behind a journal and its air, from the course that was played and how its report ended.
-use Rattle.std.proofs.Common.{◌≡◌, ◌<◌, ◌^◌, ℕ, Bool, true, false, List, [], ◌∷◌, ◌++◌, length, take, refl, sym, ap, ◌∙◌, subst, append-nil, inl, inr, ◌⊎◌}
+use Rattle.std.proofs.Common.{◌≡◌, ℕ, Bool, true, false, List, ◌++◌, length, take, refl, sym, ap, ◌∙◌, subst, append-nil, inl, inr}
 use Rattle.std.specs.Prelude.{Option, Some, None, Ok, Err, Result, drop}
 use Rattle.std.specs.List.{AllByRecursion}
 use Rattle.std.specs.Io.KnownBytes.{Appends}
@@ -13,14 +13,15 @@ use Rattle.journal_model.specs.Steps.{Command, IsStepWithin}
 use Rattle.desk_core.specs.Journal.{journal_after}
 use Rattle.desk_core.specs.Desks.{DeskState}
 use Rattle.journal_text.specs.Entries.{journal_text}
+use Rattle.cycle_player.proofs.Airs.{airings_are as cycle_airings}
 use Rattle.journal_air.specs.Air.{airings}
 use Rattle.journal_screen.proofs.Heard.{airs_heard}
 use Rattle.checkpoint_laws.specs.Going.{all_raised}
 use Rattle.desk_checkpoint.specs.declared.start.Start.{Start}
 use Rattle.desk_checkpoint.specs.Text.{start_text}
-use Rattle.headend_jobs.specs.OnAir.{HasAired, HasAiredFront}
+use Rattle.air_sending.specs.OnAir.{HasAired, HasAiredFront}
 use Rattle.epg_report.specs.declared.status.Status.{Status}
-use Rattle.epg_report.specs.declared.status.Status.TheVariants.{Done, BadScript, Disagrees, Memory, ReadFault, TooLong as PastLimit, WriteFault}
+use Rattle.epg_report.specs.declared.status.Status.TheVariants.{Done, BadScript, Disagrees, ReadFault, TooLong as PastLimit, WriteFault}
 use Rattle.epg_report.specs.declared.status.Origin.TheVariants.{Input}
 use Rattle.epg_report.specs.declared.status.Outlet.TheVariants.{Air}
 use Rattle.epg_report.specs.Ends.{ReportEnds, or_report}
@@ -38,7 +39,7 @@ use Rattle.epg_resume.specs.Checkpointed.{HasRun, IsCheckpoint}
 use Rattle.epg_resume.specs.Courses.{CourseBehind, DeskDid, Finished, HandedBy, course_text, made_entries, met_by, played_text}
 use Rattle.epg_resume.specs.Behind.{CutOn, IsReport, LeavesBehind, StoppedOn, WentOn, before_fault, played_behind}
 use Rattle.epg_resume.proofs.SentBehind.{whole_sent_behind}
-use Rattle.epg_resume.proofs.GoingOn.{IsBase, air_on, course_same, cut_on, desk_with, is_air_on, legal_on, made_same, read_on, run_on, text_on, within_on}
+use Rattle.epg_resume.proofs.GoingOn.{IsBase, air_on, course_same, cut_on, desk_with, is_air_on, legal_on, made_on, made_same, read_on, run_on, text_on, within_on}
 
 -- ---- reports
 
@@ -93,7 +94,7 @@ module _ (fold : Bool) (mux : Mux) (shift : ℕ) (journal short : List Entry) (e
   typed_all = played_typed mux journal lines
 
   airings_are : airings_of earlier ≡ airings mux journal
-  airings_are = run.is_air.airings_are
+  airings_are = cycle_airings mux.rate (airings mux journal) earlier run.is_air
 
   went_on : IsOn → (rest.1 ≡ Ended) × (behind.end.desk ≡ desk_after (desk_with mux short) rest.0) → HasAired earlier behind.end.desk behind.end.player took.old took.new → HandedBy fold Done (Some behind)
       → WentOn fold mux journal earlier took report rest (course_text fold behind Done)
@@ -102,26 +103,27 @@ module _ (fold : Bool) (mux : Mux) (shift : ℕ) (journal short : List Entry) (e
       let read = read_on mux shift journal short base earlier rest.0 run typed_all in
       let legal = legal_on mux shift journal short base rest.0 in
       let is = is_air_on mux shift journal short base earlier cycles behind.end.desk behind.end.player rest.0 airings_are did sent in
+      let made = made_on mux shift journal short base earlier cycles behind.end.desk behind.end.player rest.0 did sent in
       record {
         ended = ended;
         legal = legal;
         air_is = record {
           cycles = cycles;
           is_air = is;
-          made = sent.made;
+          made = made;
           bytes = bytes;
           heard = airs_heard mux whole (earlier ++ cycles) read legal is;
-          sent = whole_sent_behind mux whole earlier read legal cycles is sent.made;
+          sent = whole_sent_behind mux whole earlier read legal cycles is made;
         };
         text_is = text fold handed;
-        goes_on = λ few. run_on mux shift journal short base earlier cycles rest.0 run typed_all (within_on mux shift journal short base behind.end.desk rest.0 did on.within) is few;
+        goes_on = λ few clock. run_on mux shift journal short base earlier cycles rest.0 run typed_all (within_on mux shift journal short base behind.end.desk rest.0 did on.within) is few clock;
       }
     where
       text : (f : Bool) → HandedBy f Done (Some behind) → IsReport f mux journal (more rest.0) (earlier ++ cycles) (course_text f behind Done)
       text false h = ap journal_text (made_are on rest.0 did)
       text true h =
           subst (λ (n : ℕ). IsCheckpoint mux (journal ++ more rest.0) (earlier ++ cycles) (start_text n behind.end.desk behind.end.player)) (sym on.shift_is)
-          (text_on mux shift journal short base behind.end.desk behind.end.player rest.0 (earlier ++ cycles) did sent.at_end h)
+          (text_on mux shift journal short base behind.end.desk behind.end.player rest.0 (earlier ++ cycles) did sent.player_of.rate sent.at_end h)
 
   stopped : IsOn → (stop : Stop) (status : Status) → (rest.1 ≡ stop) × (behind.end.desk ≡ desk_after (desk_with mux short) rest.0) → HasAired earlier behind.end.desk behind.end.player took.old took.new
       → Reported report (before_fault fold entries ++ fault_lines status) → StoppedOn fold mux journal earlier took report rest stop status

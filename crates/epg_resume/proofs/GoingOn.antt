@@ -1,6 +1,6 @@
 -- A script that is played at a desk which goes on as a journal does is played as behind that journal.
 use Rattle.std.proofs.Common.{◌≡◌, ◌+◌, ◌<◌, ◌^◌, ℕ, false, List, [], ◌∷◌, ◌++◌, length, sym, ap, ◌∙◌, subst, inl, inr, ◌⊎◌}
-use Rattle.std.specs.Prelude.{None, drop}
+use Rattle.std.specs.Prelude.{Option, None, drop}
 use Rattle.std.specs.List.{AllByRecursion}
 use Rattle.std.proofs.lemmas.List.{map-append}
 use Rattle.std.proofs.Math.Seq.{drop-append_seam}
@@ -9,8 +9,11 @@ use Rattle.input_lines.specs.Ahead.{Ahead}
 use Rattle.version_book.specs.Airings.{AiredTables}
 use Rattle.version_book.specs.Book.{GivenVersions, given_entries}
 use Rattle.ts_packets.specs.PidCounters.{kept_from}
-use Rattle.air_model.specs.Air.{Aired, IsAirOf, airings_of}
-use Rattle.carousel_player.specs.Playing.{AtEnd, Playing}
+use Rattle.air_model.specs.Air.{Aired, airings_of}
+use Rattle.air_paced.specs.Clock.{Clock}
+use Rattle.cycle_player.specs.Airs.{AreMadeAt, IsAirAt}
+use Rattle.cycle_player.specs.Sending.{AtEnd, Sending}
+use Rattle.cycle_player.proofs.Ends.{end_air}
 use Rattle.mux_model.specs.declared.mux.Mux.{Mux}
 use Rattle.mux_model.specs.Sound.{IsSound}
 use Rattle.journal_model.specs.declared.step.Step.TheVariants.{Swap}
@@ -27,8 +30,10 @@ use Rattle.checkpoint_laws.specs.Steps.{checkpoint_steps}
 use Rattle.checkpoint_laws.specs.Going.{GoOnAlike, all_raised, raised_entry}
 use Rattle.checkpoint_laws.proofs.GoFacts.{after_alike, all_legal, folds_again, journals_alike}
 use Rattle.desk_checkpoint.specs.Text.{checkpoint_text, desk_steps, start_text}
-use Rattle.desk_checkpoint.specs.HandedOver.{HandsOver}
-use Rattle.headend_jobs.specs.OnAir.{HasAired, HasAiredFront, HasSentAll}
+use Rattle.desk_checkpoint.specs.HandedOver.{AreHandedOver, HandsOver}
+use Rattle.checkpoint_air.specs.Laws.{HasShortMoment}
+use Rattle.timed_player.specs.Clock.{reads}
+use Rattle.air_sending.specs.OnAir.{HasAired, HasAiredFront, HasSentAll}
 use Rattle.epg_report.specs.Told.{ReportTaken}
 use Rattle.epg_play.specs.Played.{course, desk_after}
 use Rattle.epg_play.specs.Script.{commands_of, first_difference, stop_of, up_to}
@@ -86,23 +91,33 @@ module _ (mux : Mux) (shift : ℕ) (journal short : List Entry) (base : IsBase m
       ∙ ap (λ (l : List AiredTables). airings mux journal ++ l) (own ∙ ap (λ (d : DeskState). airings d.mux d.entries) did)
       ∙ sym (base.airs commands)
 
-  pub is_air_on : (earlier cycles : List Aired) (end : DeskState) (player : Playing) (commands : List Command) → airings_of earlier ≡ airings mux journal
-      → end ≡ desk_after (desk_with mux short) commands → HasSentAll earlier end player cycles → IsAirOf (airings mux (journal ++ more commands)) (earlier ++ cycles)
+  pub is_air_on : (earlier cycles : List Aired) (end : DeskState) (player : Sending) (commands : List Command) → airings_of earlier ≡ airings mux journal
+      → end ≡ desk_after (desk_with mux short) commands → HasSentAll earlier end player cycles → IsAirAt mux.rate (airings mux (journal ++ more commands)) (earlier ++ cycles)
   is_air_on earlier cycles end player commands before did sent =
-      subst (λ (l : List AiredTables). IsAirOf l (earlier ++ cycles)) (airings_on earlier cycles end commands before did sent.airings_are) sent.at_end.is_air
+      let rate : player.rate ≡ mux.rate = sent.player_of.rate ∙ ap (λ (d : DeskState). d.mux.rate) did in
+      subst (λ (r : Option ℕ). IsAirAt r (airings mux (journal ++ more commands)) (earlier ++ cycles)) rate
+      (subst (λ (l : List AiredTables). IsAirAt player.rate l (earlier ++ cycles)) (airings_on earlier cycles end commands before did sent.airings_are)
+      (end_air (earlier ++ cycles) player sent.at_end))
 
-  pub air_on : (earlier : List Aired) (end : DeskState) (player : Playing) (took : ReportTaken) (commands : List Command) → airings_of earlier ≡ airings mux journal
+  -- each of its cycles is made
+  pub made_on : (earlier cycles : List Aired) (end : DeskState) (player : Sending) (commands : List Command)
+      → end ≡ desk_after (desk_with mux short) commands → HasSentAll earlier end player cycles → AreMadeAt mux.rate earlier cycles
+  made_on earlier cycles end player commands did sent =
+      subst (λ (d : DeskState). AreMadeAt d.mux.rate earlier cycles) did sent.made
+
+  pub air_on : (earlier : List Aired) (end : DeskState) (player : Sending) (took : ReportTaken) (commands : List Command) → airings_of earlier ≡ airings mux journal
       → end ≡ desk_after (desk_with mux short) commands → HasAired earlier end player took.old took.new → IsAsRead mux (journal ++ more commands) → AirOn mux journal (more commands) earlier took
   air_on earlier end player took commands before did (cycles, sent, bytes) read =
       let whole = journal ++ more commands in
       let is = is_air_on earlier cycles end player commands before did sent in
+      let made = made_on earlier cycles end player commands did sent in
       record {
         cycles = cycles;
         is_air = is;
-        made = sent.made;
+        made = made;
         bytes = bytes;
         heard = airs_heard mux whole (earlier ++ cycles) read (legal_on commands) is;
-        sent = whole_sent_behind mux whole earlier read (legal_on commands) cycles is sent.made;
+        sent = whole_sent_behind mux whole earlier read (legal_on commands) cycles is made;
       }
 
   -- the last entry of a journal that goes on is among the new ones, where it is a swap
@@ -119,9 +134,12 @@ module _ (mux : Mux) (shift : ℕ) (journal short : List Entry) (base : IsBase m
       → end ≡ desk_after (desk_with mux short) commands → HasAiredFront earlier end took.old took.new → IsAsRead mux (journal ++ more commands) → CutAirOn mux journal (more commands) earlier took
   cut_on earlier end took commands before did f read =
       let own = last_new f.front f.last (new commands) (sym (ap (λ (d : DeskState). d.entries) did) ∙ f.entries) f.is_swap in
-      let is = subst (λ (l : List AiredTables). IsAirOf l (earlier ++ (f.whole ++ f.cut ∷ [])))
+      let rate : end.mux.rate ≡ mux.rate = ap (λ (d : DeskState). d.mux.rate) did in
+      let made = subst (λ (r : Option ℕ). AreMadeAt r earlier (f.whole ++ f.cut ∷ [])) rate f.made in
+      let is = subst (λ (r : Option ℕ). IsAirAt r (airings mux (journal ++ more commands)) (earlier ++ (f.whole ++ f.cut ∷ []))) rate
+      (subst (λ (l : List AiredTables). IsAirAt end.mux.rate l (earlier ++ (f.whole ++ f.cut ∷ [])))
       (ap (λ (l : List AiredTables). l ++ airings end.mux end.entries) before
-      ∙ ap (λ (d : DeskState). airings mux journal ++ airings d.mux d.entries) did ∙ sym (base.airs commands)) f.is_air in
+      ∙ ap (λ (d : DeskState). airings mux journal ++ airings d.mux d.entries) did ∙ sym (base.airs commands)) f.is_air) in
       record {
         front = all_raised shift own.0;
         last = raised_entry shift f.last;
@@ -130,32 +148,37 @@ module _ (mux : Mux) (shift : ℕ) (journal short : List Entry) (base : IsBase m
         whole = f.whole;
         cut = f.cut;
         is_air = is;
-        made = f.made;
+        made = made;
         taken = f.taken;
         proper = f.proper;
         bytes = f.bytes;
-        sent = cut_sent_behind mux (journal ++ more commands) earlier read (legal_on commands) f.whole f.cut f.taken is f.made f.proper;
+        sent = cut_sent_behind mux (journal ++ more commands) earlier read (legal_on commands) f.whole f.cut f.taken is made f.proper;
       }
 
   -- ---- folded again
 
-  pub text_on : (end : DeskState) (player : Playing) (commands : List Command) (cycles : List Aired) → end ≡ desk_after (desk_with mux short) commands
-      → AtEnd cycles player → HandsOver player → IsCheckpoint mux (journal ++ more commands) cycles (start_text shift end player)
-  text_on end player commands cycles did at_end handed =
+  pub text_on : (end : DeskState) (player : Sending) (commands : List Command) (cycles : List Aired) → end ≡ desk_after (desk_with mux short) commands
+      → player.rate ≡ end.mux.rate → AtEnd cycles player → HandsOver player → IsCheckpoint mux (journal ++ more commands) cycles (start_text shift end player)
+  text_on end player commands cycles did same at_end handed =
       let whole = journal ++ more commands in
       let alike : GoOnAlike mux shift whole (short ++ new commands) = after_alike mux shift journal short commands base.sound base.legal base.own base.alike in
       let entries : end.entries ≡ short ++ new commands = ap (λ (d : DeskState). d.entries) did in
       let count : shift + publishes end.entries ≡ publishes whole = ap (λ (l : List Entry). shift + publishes l) entries ∙ sym alike.count in
       let steps : desk_steps shift end ≡ checkpoint_steps mux whole = ap (desk_steps shift) did ∙ sym (folds_again mux shift whole (short ++ new commands) alike) in
+      let rate : end.mux.rate ≡ mux.rate = ap (λ (d : DeskState). d.mux.rate) did in
+      let own = checkpoint_steps mux whole in
       record {
         keys = handed.keys;
         pids = handed.pids;
-        kept = handed.are cycles at_end;
+        clock = handed.clock;
+        kept = subst (λ (r : Option ℕ). AreHandedOver r cycles handed.keys handed.pids handed.clock) (same ∙ rate) (handed.are cycles at_end);
         text_is =
-            ap (λ (n : ℕ). checkpoint_text n (desk_steps shift end) player.book (kept_from 0 player.counters)) count
-            ∙ ap (λ (l : List Command). checkpoint_text (publishes whole) l player.book (kept_from 0 player.counters)) steps
-            ∙ ap (λ (l : GivenVersions). checkpoint_text (publishes whole) (checkpoint_steps mux whole) l (kept_from 0 player.counters)) (sym handed.keys_are)
-            ∙ ap (checkpoint_text (publishes whole) (checkpoint_steps mux whole) (given_entries handed.keys)) (sym handed.pids_are);
+            ap (λ (n : ℕ). checkpoint_text n end.mux.rate player.clock (desk_steps shift end) player.book (kept_from 0 player.counters)) count
+            ∙ ap (λ (r : Option ℕ). checkpoint_text (publishes whole) r player.clock (desk_steps shift end) player.book (kept_from 0 player.counters)) rate
+            ∙ ap (λ (c : Clock). checkpoint_text (publishes whole) mux.rate c (desk_steps shift end) player.book (kept_from 0 player.counters)) (sym handed.clock_is)
+            ∙ ap (λ (l : List Command). checkpoint_text (publishes whole) mux.rate (reads handed.clock) l player.book (kept_from 0 player.counters)) steps
+            ∙ ap (λ (l : GivenVersions). checkpoint_text (publishes whole) mux.rate (reads handed.clock) own l (kept_from 0 player.counters)) (sym handed.keys_are)
+            ∙ ap (checkpoint_text (publishes whole) mux.rate (reads handed.clock) own (given_entries handed.keys)) (sym handed.pids_are);
       }
 
   -- ---- it can be gone on from again
@@ -170,9 +193,9 @@ module _ (mux : Mux) (shift : ℕ) (journal short : List Entry) (base : IsBase m
   }
 
   pub run_on : (earlier cycles : List Aired) (commands : List Command) → HasRun mux journal earlier → AreTypedCommands commands
-      → AllByRecursion (λ (entry : Entry). IsStepWithin entry.step) (more commands) → IsAirOf (airings mux (journal ++ more commands)) (earlier ++ cycles)
-      → publishes (journal ++ more commands) < 10 ^ 18 → HasRun mux (journal ++ more commands) (earlier ++ cycles)
-  run_on earlier cycles commands run typed within is few = record {
+      → AllByRecursion (λ (entry : Entry). IsStepWithin entry.step) (more commands) → IsAirAt mux.rate (airings mux (journal ++ more commands)) (earlier ++ cycles)
+      → publishes (journal ++ more commands) < 10 ^ 18 → HasShortMoment mux.rate (earlier ++ cycles) → HasRun mux (journal ++ more commands) (earlier ++ cycles)
+  run_on earlier cycles commands run typed within is few clock = record {
     read = read_on earlier commands run typed;
     folds = record {
       sound = run.folds.sound;
@@ -183,6 +206,7 @@ module _ (mux : Mux) (shift : ℕ) (journal short : List Entry) (base : IsBase m
       few = few;
     };
     is_air = is;
+    clock = clock;
   }
 
   -- a desk may be asked the new steps, where it may be asked all

@@ -1,5 +1,5 @@
 -- Runs that are folded or go on, from what was played and how the report ended.
-use Rattle.std.proofs.Common.{◌≡◌, ◌≤◌, ℕ, Bool, true, List, [], ◌++◌, length, refl, sym, ap, ◌∙◌, subst, inl, inr, ◌⊎◌, arith}
+use Rattle.std.proofs.Common.{◌≡◌, ◌≤◌, ℕ, Bool, true, List, [], ◌++◌, length, refl, sym, ap, ◌∙◌, subst, inl, inr, ◌⊎◌, arith, lit<}
 use Rattle.std.specs.Prelude.{Option, Some, None, Ok, Err, Result}
 use Rattle.std.specs.Io.KnownBytes.{Appends, IsAtEnd}
 use Rattle.si_causes.proofs.CauseFacts.{Appends-nothing}
@@ -16,10 +16,12 @@ use Rattle.mux_config.proofs.FineLines.{described_texts_are_kept, whole_descript
 use Rattle.journal_model.specs.declared.step.Entry.{Entry}
 use Rattle.journal_model.specs.Steps.{Command}
 use Rattle.desk_core.specs.Desks.{DeskState}
-use Rattle.journal_air.specs.Air.{airings, mux_form}
+use Rattle.cycle_player.specs.Airs.{IsAirAt}
+use Rattle.checkpoint_air.specs.Laws.{HasShortMoment}
+use Rattle.air_sending.specs.OnAir.{IsPlayerOf}
+use Rattle.journal_air.specs.Air.{airings}
 use Rattle.checkpoint_laws.specs.Steps.{folded, shift_of}
 use Rattle.desk_core.specs.Journal.{publishes}
-use Rattle.desk_checkpoint.specs.declared.start.Start.{Start}
 use Rattle.desk_checkpoint.specs.Checkpoints.{Checkpoint}
 use Rattle.epg_report.specs.declared.status.Status.{Status}
 use Rattle.epg_report.specs.declared.status.Status.TheVariants.{BadCheckpoint, BadMux, BadScript, Disagrees, Done, Memory, OpenFault, ReadFault, TooLong as PastLimit, WriteFault}
@@ -136,6 +138,14 @@ module _ (fold : Bool) (report : ReportTaken) (played : Played) (Idle Left : Sta
 
 -- ---- a head-end that did nothing yet
 
+no_air : (rate : Option ℕ) → IsAirAt rate [] []
+no_air None = record { airings_are = refl; cycles = tt; counted = λ pid. tt; fields = tt; nulls = tt }
+no_air (Some rate) = record { airings_are = refl; cycles = tt; counted = λ pid. tt; fields = tt; nulls = tt }
+
+no_clock : (rate : Option ℕ) → HasShortMoment rate []
+no_clock None = tt
+no_clock (Some rate) = lit< tt
+
 -- the multiplex of a description is one that lines give
 pub new_run : (mux : Mux) (lines : Ahead) → AreDescribed mux lines → HasRun mux [] []
 new_run mux lines (from, is) =
@@ -144,7 +154,8 @@ new_run mux lines (from, is) =
     record {
       read = record { sound = sound; network = kept.0; services = fed_named mux kept.1; edits = tt; steps = tt };
       folds = record { sound = sound.sound; named = fed_named mux kept.1; legal = tt; within = tt; typed = tt; few = omega arith };
-      is_air = record { airings_are = refl; cycles = tt; counted = λ pid. tt; fields = tt; nulls = tt };
+      is_air = no_air mux.rate;
+      clock = no_clock mux.rate;
     }
 
 new_behind : (fold : Bool) (air report : ReportTaken) (played : Played) (mux : Mux) (lines : Ahead) (status : Status) → AreDescribed mux lines → CourseBehind (IsNew mux) air.old air.new played lines
@@ -152,7 +163,7 @@ new_behind : (fold : Bool) (air report : ReportTaken) (played : Played) (mux : M
 new_behind fold air report played mux lines status is c finished =
     let run = new_run mux lines is in
     leaves_behind fold mux 0 [] [] [] (new_base mux run.folds.sound) run air report lines (IsNew mux) played c c.begins.desk c.begins.shift
-    (begun_aired [] c.start air.old (ap (λ (d : DeskState). airings d.mux d.entries) c.begins.desk) c.begins.player (c.begins.form ∙ sym (ap (λ (d : DeskState). mux_form d.mux) c.begins.desk))) status finished
+    (begun_aired [] c.start air.old (ap (λ (d : DeskState). airings d.mux d.entries) c.begins.desk) c.begins.player (subst (λ (m : Mux). IsPlayerOf m c.start.player) (sym (ap (λ (d : DeskState). d.mux) c.begins.desk)) c.begins.player_of)) status finished
 
 -- where neither the input nor a sink fails, the script decides
 fold_behind_decides : (mux : Mux) (lines : Ahead) (air report : ReportTaken) (status : Status) → LeavesBehind true mux [] [] air report lines status → IsOfPlay status
@@ -311,9 +322,9 @@ module _ (path : List ℕ) (files : Files) (fold : Bool) (air report : ReportTak
       let sound = run.folds.sound in
       let legal = run.folds.legal in
       let none : airings c.start.desk.mux c.start.desk.entries ≡ [] = ap (λ (d : DeskState). airings d.mux d.entries) from.desk ∙ nothing_folded mux journal sound legal in
-      let form : c.start.player.form ≡ mux_form c.start.desk.mux = c.begins.is.form ∙ ap mux_form (sym c.begins.is.mux_is) in
+      let player_of = subst (λ (m : Mux). IsPlayerOf m c.start.player) (sym c.begins.is.mux_is) c.begins.is.player_of in
       leaves_behind fold mux (shift_of (publishes journal)) journal (folded mux journal) earlier (folded_base mux journal sound legal) run air report lines (BeganAt path files mux) played c from.desk from.shift
-      (begun_aired earlier c.start air.old none from.player form) status finished
+      (begun_aired earlier c.start air.old none from.player player_of) status finished
 
   resumed_behind : (opener : OpenerAsked) → Tries opener.tried_old opener.tried_new path → (played : Played) (status : Status) → BegunFrom path files air.old air.new played mux lines played.met
       → Finished fold played report status → Resumes path files fold opener air report mux lines status

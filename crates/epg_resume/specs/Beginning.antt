@@ -4,10 +4,10 @@ use Rattle.si_causes.specs.Causes.{Rose}
 use Rattle.si_causes.specs.Opening.{Files}
 use Rattle.si_causes.specs.declared.stop.ReadStop.TheVariants.{Failed, TooLong as Overlong}
 use Rattle.input_lines.specs.Ahead.{NoCommand, Stop, TooLong}
-use Rattle.carousel_player.specs.Playing.{AtEnd}
+use Rattle.cycle_player.specs.Sending.{AtEnd}
 use Rattle.mux_model.specs.declared.mux.Mux.{Mux}
 use Rattle.desk_core.specs.Desks.{fresh}
-use Rattle.journal_air.specs.Air.{mux_form}
+use Rattle.air_sending.specs.OnAir.{IsPlayerOf}
 use Rattle.desk_checkpoint.specs.declared.start.Start.{Start}
 use Rattle.desk_checkpoint.specs.declared.start.CheckStop.{CheckStop}
 use Rattle.desk_checkpoint.specs.declared.start.CheckStop.TheVariants.{Line, Read, Memory as NoMemory}
@@ -25,7 +25,7 @@ pub record IsNew (mux : Mux) (start : Start) : Type 0 where
   pub desk : start.desk ≡ fresh mux
   pub shift : start.shift ≡ 0
   pub player : AtEnd [] start.player
-  pub form : start.player.form ≡ mux_form mux
+  pub player_of : IsPlayerOf mux start.player
 
 -- the status of a run whose checkpoint was not read
 abbrev pub check_status : CheckStop → Status

@@ -4,8 +4,7 @@ use Rattle.std.specs.Io.KnownBytes.{Appends}
 use Rattle.si_causes.specs.Causes.{AppendsFront}
 use Rattle.input_lines.specs.Ahead.{Ahead}
 use Rattle.ts_packets.specs.Bytes.{bytes_of_packet}
-use Rattle.air_model.specs.Air.{Aired, IsAirOf, air, air_bytes}
-use Rattle.air_model.specs.Making.{AreMade}
+use Rattle.air_model.specs.Air.{Aired, air, air_bytes}
 use Rattle.mux_model.specs.declared.mux.Mux.{Mux}
 use Rattle.journal_model.specs.declared.step.Step.TheVariants.{Swap}
 use Rattle.journal_model.specs.declared.step.Entry.{Entry}
@@ -15,8 +14,8 @@ use Rattle.script_lines.specs.Script.{items_ahead}
 use Rattle.journal_text.specs.Entries.{journal_text}
 use Rattle.journal_air.specs.Air.{airings}
 use Rattle.journal_screen.specs.Heard.{IsHeardAs}
-use Rattle.headend_jobs.specs.OnAir.{cycle_bytes}
-use Rattle.headend_live.specs.SentAir.{SentAir}
+use Rattle.air_sending.specs.OnAir.{cycle_bytes}
+use Rattle.air_sending.specs.SentAir.{SentAir}
 use Rattle.epg_report.specs.declared.status.Status.{Status}
 use Rattle.epg_report.specs.declared.status.Status.TheVariants.{BadScript, Disagrees, Done, Memory, OpenFault, ReadFault, TooLong as PastLimit, WriteFault}
 use Rattle.epg_report.specs.declared.status.Origin.TheVariants.{Input, Recording}
@@ -24,24 +23,29 @@ use Rattle.epg_report.specs.declared.status.Outlet.TheVariants.{Air, Report}
 use Rattle.epg_report.specs.Texts.{fault_lines}
 use Rattle.epg_report.specs.Told.{ReportTaken, Reported}
 use Rattle.epg_play.specs.Script.{Stop, Ended, NoCommand, Disagreed, TooLong, Unread, played_items}
+use Rattle.checkpoint_air.specs.Laws.{HasShortMoment}
 use Rattle.epg_resume.specs.Checkpointed.{HasRun, IsCheckpoint}
+use Rattle.cycle_player.specs.Airs.{AreMadeAt, IsAirAt}
 
 -- of the script ahead, what is played behind a journal, and why no more is
 abbrev pub played_behind : Mux → List Entry → Ahead → List Command × Stop
 played_behind mux journal lines = played_items mux journal (items_ahead false lines)
 
--- Behind earlier cycles the air took these bytes. Where the earlier cycles are made as those of a player are, all bytes together are an air
--- of the journal or the first bytes of one, and that is coherent, exact and spaced. Without earlier cycles they are the bytes taken alone.
+-- Behind earlier cycles the air took these bytes. Where the earlier cycles are made as those of a
+-- player are, all bytes together are an air of the journal or the first bytes of one, and that is
+-- coherent, exact and spaced, or keeps time at a bit rate. Without earlier cycles they are the
+-- bytes taken alone.
 abbrev pub IsSentBehind : Mux → List Entry → List Aired → List ℕ → Type 0
 IsSentBehind mux journal earlier taken =
-    AreMade [] earlier → SentAir mux journal (Some []) (Some (air_bytes earlier ++ taken))
+    AreMadeAt mux.rate [] earlier → SentAir mux journal (Some []) (Some (air_bytes earlier ++ taken))
 
--- Behind earlier cycles the air took cycles that make with them an air of the journal with more entries; neighbours of one PID share
--- packets. So who hears both parts hears one airing at a time, and is shown the guide of what stays on air.
+-- Behind earlier cycles the air took cycles that make with them an air of the journal with more
+-- entries; without a bit rate neighbours of one PID share packets. So who hears both parts hears
+-- one airing at a time, and is shown the guide of what stays on air.
 pub record AirOn (mux : Mux) (journal more : List Entry) (earlier : List Aired) (air_took : ReportTaken) : Type 0 where
   pub cycles : List Aired
-  pub is_air : IsAirOf (airings mux (journal ++ more)) (earlier ++ cycles)
-  pub made : AreMade earlier cycles
+  pub is_air : IsAirAt mux.rate (airings mux (journal ++ more)) (earlier ++ cycles)
+  pub made : AreMadeAt mux.rate earlier cycles
   pub bytes : Appends air_took.old air_took.new (air_bytes cycles)
   pub heard : IsHeardAs mux (journal ++ more) (map bytes_of_packet (air (earlier ++ cycles)))
   pub sent : IsSentBehind mux (journal ++ more) earlier (air_bytes cycles)
@@ -54,8 +58,8 @@ pub record CutAirOn (mux : Mux) (journal more : List Entry) (earlier : List Aire
   pub is_swap : last.step ≡ Swap
   pub whole : List Aired
   pub cut : Aired
-  pub is_air : IsAirOf (airings mux (journal ++ more)) (earlier ++ (whole ++ cut ∷ []))
-  pub made : AreMade earlier (whole ++ cut ∷ [])
+  pub is_air : IsAirAt mux.rate (airings mux (journal ++ more)) (earlier ++ (whole ++ cut ∷ []))
+  pub made : AreMadeAt mux.rate earlier (whole ++ cut ∷ [])
   pub taken : ℕ
   pub proper : taken < length (cycle_bytes cut)
   pub bytes : Appends air_took.old air_took.new (air_bytes whole ++ take taken (cycle_bytes cut))
@@ -72,14 +76,16 @@ before_fault false more = journal_text more
 before_fault true more = []
 
 module _ (fold : Bool) (mux : Mux) (journal : List Entry) (earlier : List Aired) (air_took report : ReportTaken) where
-  -- The script was played to its end: its journal goes on with the one before, its air with the one before, and the whole report is
-  -- `text`. It can be gone on from again.
+  -- The script was played to its end: its journal goes on with the one before, its air with the one
+  -- before, and the whole report is `text`. It can be gone on from again, at a bit rate while the
+  -- clock's moment has at most 18 digits.
   pub record WentOn (rest : List Command × Stop) (text : List ℕ) : Type 0 where
     pub ended : rest.1 ≡ Ended
     pub legal : Legal mux (journal ++ journal_after mux journal rest.0)
     pub air_is : AirOn mux journal (journal_after mux journal rest.0) earlier air_took
     pub text_is : IsReport fold mux journal (journal_after mux journal rest.0) (earlier ++ air_is.cycles) text
     pub goes_on : publishes (journal ++ journal_after mux journal rest.0) < 10 ^ 18
+        → HasShortMoment mux.rate (earlier ++ air_is.cycles)
         → HasRun mux (journal ++ journal_after mux journal rest.0) (earlier ++ air_is.cycles)
 
   -- a fault ended the script behind its commands

@@ -17,7 +17,7 @@ use Rattle.desk_checkpoint.specs.Raising.{CanBeRaised}
 use Rattle.desk_checkpoint.specs.Starts.{IsStart}
 use Rattle.desk_checkpoint.specs.HandedOver.{HandsOver}
 use Rattle.desk_checkpoint.specs.Text.{start_text}
-use Rattle.headend_jobs.specs.OnAir.{HasAired}
+use Rattle.air_sending.specs.OnAir.{HasAired}
 use Rattle.epg_report.specs.declared.status.Status.{Status}
 use Rattle.epg_report.specs.declared.status.Status.TheVariants.{BadMux, Done, Memory, WriteFault}
 use Rattle.epg_report.specs.declared.status.Outlet.TheVariants.{Report}

@@ -6,7 +6,7 @@
 //! with those before. Folded again, the report is the checkpoint of both runs together. A file that
 //! is no checkpoint is refused before any step is done.
 //!
-//! Tested in `headend_rows`: scripts cut after each swap, joined again and compared with the whole;
+//! Tested by whole runs: scripts cut after each swap, joined again and compared with the whole;
 //! refused checkpoints; files that cannot be opened or read.
 //!
 //! What was sent is coherent, exact and spaced, as with `play`, also where a cycle was cut: with

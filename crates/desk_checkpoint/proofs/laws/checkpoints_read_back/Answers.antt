@@ -6,4 +6,5 @@ pub returns-clause-steps : goal.returns-clause-steps
 returns-clause-steps c = λ mux journal can. steps_readable mux journal can
 
 pub returns-clause-back : goal.returns-clause-back
-returns-clause-back c = λ mux journal keys counters can written counted behind tail. checkpoints_back mux journal keys counters can written counted behind tail
+returns-clause-back c = λ mux journal keys counters clock can written counted told behind tail.
+    checkpoints_back mux journal keys counters clock can written counted told behind tail

@@ -1,4 +1,4 @@
-use Rattle.std.proofs.Common.{refl, subst, sym}
+use Rattle.std.proofs.Common.{refl}
 use Rattle.desk_checkpoint.proofs.CountFacts.{count_read, count_small}
 use Rattle.desk_checkpoint.proofs.part.count_value.Goals as goal
 

@@ -1,4 +1,4 @@
-use Rattle.std.proofs.Common.{◌<◌, ◌≤◌, Bool, List, ℕ, refl, arith}
+use Rattle.std.proofs.Common.{◌<◌, ◌≤◌, Bool, ℕ, refl, arith}
 use Rattle.std.specs.Prelude.{Ok, Err, Result, OnOk}
 use Rattle.si_causes.specs.Reading.{room}
 use Rattle.input_lines.specs.declared.stop.EditStop.{EditStop}

@@ -1,5 +1,5 @@
 use Rattle.std.proofs.Common.{◌∙◌, ℕ, ap, sym}
-use Rattle.desk_core.specs.Journal.{outcome_of, publishes}
+use Rattle.desk_core.specs.Journal.{publishes}
 use Rattle.desk_core.specs.Desks.{DeskState, and_entry}
 use Rattle.desk_checkpoint.specs.Checkpoints.{published_by}
 use Rattle.desk_checkpoint.proofs.StepFacts.{published_step}

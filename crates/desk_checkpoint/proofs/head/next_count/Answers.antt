@@ -5,7 +5,7 @@ use Rattle.input_lines.specs.Fields.{record_of}
 use Rattle.input_lines.specs.Ahead.{Ahead, Row, first_row, missing_at, on_line}
 use Rattle.input_lines.proofs.LineReads.{line_read, line_missing, line_stopped, read_said, read_then, read_unread}
 use Rattle.desk_checkpoint.specs.Fields.{count_of}
-use Rattle.desk_checkpoint.proofs.parts.next_count.Goals as goal
+use Rattle.desk_checkpoint.proofs.head.next_count.Goals as goal
 
 abbrev count_in_line : List ℕ → Option ℕ
 count_in_line line = option_and_then count_of (record_of line)
