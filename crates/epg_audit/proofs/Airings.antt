@@ -1,12 +1,11 @@
 -- What the commands of a script put on air, and what the first of them do.
-use Rattle.std.proofs.Common.{◌≡◌, ℕ, ◌+◌, List, [], ◌∷◌, ◌++◌, length, sym, ap, ◌∙◌, subst, append-nil, append_assoc}
+use Rattle.std.proofs.Common.{◌≡◌, Bool, ℕ, ◌+◌, List, [], ◌∷◌, ◌++◌, length, sym, ap, ◌∙◌, subst, append-nil, append_assoc}
 use Rattle.std.specs.Prelude.{Option, Some}
 use Rattle.si_causes.specs.Text.{text_lines}
 use Rattle.input_lines.specs.Ahead.{tail_of}
 use Rattle.version_book.specs.Airings.{AiredTables}
 use Rattle.air_model.specs.Air.{CanBeSent}
 use Rattle.air_hearing.proofs.Told.{sent_of}
-use Rattle.air_audit.specs.Audits.{AreAnAir}
 use Rattle.mux_model.specs.declared.mux.Mux.{Mux}
 use Rattle.journal_model.specs.Steps.{Command}
 use Rattle.desk_core.specs.Journal.{entry_after, journal_of}
@@ -17,13 +16,16 @@ use Rattle.journal_air.proofs.CarryFacts.{airings_heard}
 use Rattle.journal_screen.specs.Shown.{IsAsRead}
 use Rattle.journal_screen.specs.Heard.{IsHeardAs}
 use Rattle.journal_screen.proofs.Heard.{airs_heard}
-use Rattle.headend_jobs.proofs.SwapFacts.{airings-push}
+use Rattle.air_sending.proofs.SwapFacts.{airings-push}
 use Rattle.epg_play.specs.Script.{Script, Stop, script_in}
 use Rattle.epg_play.specs.Leaves.{whole_journal}
 use Rattle.epg_play.proofs.RunFacts.{IsPlayed, IsPlayedTo}
 use Rattle.epg_play.proofs.SentFacts.{script_as_read}
 use Rattle.epg_audit.specs.Audits.{desk_airings}
 use Rattle.epg_audit.specs.Recorded.{airings_for, script_airings}
+use Rattle.cycle_audit.specs.Airs.{AreAirAt}
+use Rattle.air_sending.proofs.Spaced.{airings_timed}
+use Rattle.epg_audit.proofs.Plain.{heard_in}
 
 -- ---- the first commands
 
@@ -67,8 +69,15 @@ script_sent text mux e =
 
 -- ---- how an air of it is heard
 
-pub script_heard : (text : List ℕ) (mux : Mux) (packets : List (List ℕ)) → (script_in text).mux ≡ Some mux → AreAnAir (airings mux (journal_of mux (script_in text).commands)) packets
+pub script_heard : (text : List ℕ) (mux : Mux) (nulls : Bool) (packets : List (List ℕ))
+    → (script_in text).mux ≡ Some mux
+    → AreAirAt mux.rate nulls (airings mux (journal_of mux (script_in text).commands)) packets
     → IsHeardAs mux (journal_of mux (script_in text).commands) packets
-script_heard text mux packets e is =
+script_heard text mux nulls packets e is =
     let journal = journal_of mux (script_in text).commands in
-    subst (IsHeardAs mux journal) is.packets_are (airs_heard mux journal is.xs (script_read text mux e) (journal_legal mux [] (script_in text).commands) is.is_air)
+    let read = script_read text mux e in
+    let legal = journal_legal mux [] (script_in text).commands in
+    let (xs, air_is, are) =
+    heard_in mux.rate nulls (airings mux journal) packets (airings_timed mux journal read legal) is
+    in
+    subst (IsHeardAs mux journal) are (airs_heard mux journal xs read legal air_is)

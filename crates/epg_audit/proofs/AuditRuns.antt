@@ -1,6 +1,6 @@
 -- A run of `audit`, from what it found and how its report ended.
-use Rattle.std.proofs.Common.{◌≡◌, ℕ, Bool, suc, ◌<◌, ◌≤◌, List, ◌++◌, take, drop, refl, sym, ap, ◌∙◌, subst, arith, append-nil, inl, inr, ◌⊎◌}
-use Rattle.std.specs.Prelude.{Option, Some, None, Ok, Err, Result, IfErr, OnOk}
+use Rattle.std.proofs.Common.{◌≡◌, ℕ, Bool, suc, ◌≤◌, List, ◌++◌, take, drop, refl, sym, ap, ◌∙◌, subst, arith, append-nil, inl, inr, ◌⊎◌}
+use Rattle.std.specs.Prelude.{Option, Some, Ok, Err, Result, IfErr, OnOk}
 use Rattle.std.specs.Io.KnownBytes.{Appends, IsAtEnd}
 use Rattle.std.proofs.lemmas.List.{take-append-drop}
 use Rattle.si_causes.specs.Causes.{Rose, AppendsFront}
@@ -9,7 +9,6 @@ use Rattle.si_causes.specs.Opening.{Files, TakesBack, Tries, file_at}
 use Rattle.mux_model.specs.declared.mux.Mux.{Mux}
 use Rattle.version_book.specs.Airings.{AiredTables}
 use Rattle.ts_packets.specs.WholePackets.{whole_packets}
-use Rattle.air_audit.specs.Audits.{AreAnAir}
 use Rattle.epg_report.specs.declared.status.Status.{Status}
 use Rattle.epg_report.specs.declared.status.Status.TheVariants.{Done, Usage, BadScript, Disagrees, BadMux, BadFeed, BadStream, TooLong as PastLimit, OpenFault, ReadFault, WriteFault, Memory, TooMany, NoView, NotAir, Short, BadCheckpoint}
 use Rattle.epg_report.specs.declared.status.Origin.TheVariants.{Input, Feed, Recording}
@@ -26,8 +25,11 @@ use Rattle.epg_audit.specs.Ends.{air_line, count_text, met_by}
 use Rattle.epg_audit.specs.Audits.{HasAuditCause}
 use Rattle.epg_audit.specs.Finds.{FindsIn, HasMetCause, IsAtFault, IsFound, IsMetBehind, IsMetByAudit}
 use Rattle.epg_audit.specs.Leaves.{AuditRun, DecidedBy, IsOfAudit, IsUnhindered, LeavesAudit}
-use Rattle.epg_audit.specs.Recorded.{IsFaulty, IsRecordedAir, airings_for, script_airings, seen}
+use Rattle.epg_audit.specs.Recorded.{IsFaulty, IsRecordedAir, airings_for, script_airings, rate_in}
 use Rattle.epg_audit.proofs.Nulls.{seen_parts}
+use Rattle.cycle_audit.specs.Airs.{AreAirAt}
+use Rattle.cycle_audit.proofs.Laws.{air_begins}
+use Rattle.timed_audit.specs.Airs.{seen}
 
 abbrev pub Finished : Result AirCount Status → ReportTaken → Status → Type 0
 Finished audited report status = (status ≡ Memory) ⊎ ReportEnds (met_by audited) (count_text audited) report status
@@ -104,26 +106,34 @@ ended_of left report (Err met) status is end (inr (inr (rose, took, same))) e = 
 
 -- ---- where nothing fails
 
-script_aired : (text : List ℕ) (mux : Mux) → (script_in text).mux ≡ Some mux → script_airings (script_in text) ≡ airings_for (Some mux) (whole_journal (script_in text))
-script_aired text mux e = ap (λ (o : Option Mux). airings_for o (whole_journal (script_in text))) e
-
 module _ (path : List ℕ) (nulls : Bool) (files : Files) (opener : OpenerAsked) (text : List ℕ) (left : Option (List ℕ)) (report : ReportTaken) where
   abbrev aired : List AiredTables
   aired = script_airings (script_in text)
 
+  abbrev rate : Option ℕ
+  rate = rate_in (script_in text).mux
+
   abbrev Decided : Status → Type 0
-  Decided status = (status ≡ Memory) ⊎ AtPath path files (DecidedBy nulls aired status)
+  Decided status = (status ≡ Memory) ⊎ AtPath path files (DecidedBy rate nulls aired status)
 
   stops_not : (stop : Stop) (status : Status) → (script_in text).stop ≡ Ended → (script_in text).stop ≡ stop → (Ended ≡ stop → ⊥) → Decided status
   stops_not stop status ended is apart = absurd (apart (sym ended ∙ is))
 
-  at_fault : (status : Status) → AtPath path files (IsAtFault nulls (script_in text) status) → AtPath path files (λ bytes. IsFaulty nulls aired bytes status)
+  at_fault : (status : Status) → AtPath path files (IsAtFault nulls (script_in text) status)
+      → AtPath path files (λ bytes. IsFaulty rate nulls aired bytes status)
   at_fault status at = record { bytes = at.bytes; file = at.file; is = at.is.faulty }
 
   decided : (status : Status) → LeavesAudit path nulls files opener text left report status → (script_in text).stop ≡ Ended → (status ≡ ReadFault Input → ⊥) → (status ≡ ReadFault Recording → ⊥) → ((n : ℕ) → status ≡ OpenFault n → ⊥)
       → (status ≡ WriteFault Report → ⊥) → Decided status
   decided Done (count, accepted, took) ended no_input no_reading no_opening no_report =
-      inr (record { bytes = accepted.bytes; file = accepted.file; is = subst (λ (l : List AiredTables). IsRecordedAir nulls l accepted.bytes) (sym (script_aired text accepted.mux accepted.described)) accepted.air })
+      inr (record {
+        bytes = accepted.bytes;
+        file = accepted.file;
+        is =
+            subst (λ (o : Option Mux). IsRecordedAir (rate_in o) nulls
+            (airings_for o (whole_journal (script_in text))) accepted.bytes) (sym accepted.described)
+            accepted.air;
+      })
   decided (WriteFault Report) leaves ended no_input no_reading no_opening no_report = absurd (no_report refl)
   decided (WriteFault Air) leaves ended no_input no_reading no_opening no_report = absurd leaves.0
   decided Memory leaves ended no_input no_reading no_opening no_report = inl refl
@@ -148,12 +158,22 @@ module _ (path : List ℕ) (nulls : Bool) (files : Files) (opener : OpenerAsked)
 
   -- ---- an air is not at fault
 
-  front_begins : (airings : List AiredTables) (bytes : List ℕ) (n : ℕ) (air : IsRecordedAir nulls airings bytes) → AreAnAir airings (seen nulls (take n (whole_packets bytes)) ++ seen nulls (drop n (whole_packets bytes)))
+  front_begins : (airings : List AiredTables) (bytes : List ℕ) (n : ℕ)
+      (air : IsRecordedAir rate nulls airings bytes)
+      → AreAirAt rate nulls airings (seen nulls (take n (whole_packets bytes))
+      ++ seen nulls (drop n (whole_packets bytes)))
   front_begins airings bytes n air =
-      subst (AreAnAir airings) (sym (ap (seen nulls) (take-append-drop n (whole_packets bytes))) ∙ seen_parts nulls (take n (whole_packets bytes)) (drop n (whole_packets bytes))) air.air
+      subst (AreAirAt rate nulls airings)
+      (sym (ap (seen nulls) (take-append-drop n (whole_packets bytes)))
+      ∙ seen_parts nulls (take n (whole_packets bytes)) (drop n (whole_packets bytes))) air.air
 
-  no_fault : (airings : List AiredTables) (bytes : List ℕ) (status : Status) → IsRecordedAir nulls airings bytes → (status ≡ ReadFault Recording → ⊥) → IsFaulty nulls airings bytes status → ⊥
-  no_fault airings bytes (NotAir n rule) air no_reading faulty = faulty.0.differs (record { more = seen nulls (drop (suc n) (whole_packets bytes)); whole = front_begins airings bytes (suc n) air })
+  no_fault : (airings : List AiredTables) (bytes : List ℕ) (status : Status)
+      → IsRecordedAir rate nulls airings bytes → (status ≡ ReadFault Recording → ⊥)
+      → IsFaulty rate nulls airings bytes status → ⊥
+  no_fault airings bytes (NotAir n rule) air no_reading faulty =
+      faulty.0.differs (air_begins rate nulls airings
+      (seen nulls (take (suc n) (whole_packets bytes)))
+      (seen nulls (drop (suc n) (whole_packets bytes))) (front_begins airings bytes (suc n) air))
   no_fault airings bytes (Short n) air no_reading faulty = faulty.no_air air.air
   no_fault airings bytes (BadStream n) air no_reading faulty = omega (arith, faulty.more, faulty.less, air.whole)
   no_fault airings bytes (PastLimit Recording) air no_reading faulty = omega (arith, faulty.more, air.whole, air.limit)
@@ -164,17 +184,22 @@ module _ (path : List ℕ) (nulls : Bool) (files : Files) (opener : OpenerAsked)
   no_fault airings bytes (ReadFault (Feed f)) air no_reading faulty = faulty
   no_fault airings bytes other air no_reading faulty = faulty
 
-  accept_by : (airings : List AiredTables) (bytes : List ℕ) (status : Status) → IsRecordedAir nulls airings bytes → (status ≡ ReadFault Recording → ⊥) → DecidedBy nulls airings status bytes → (status ≡ Done) ⊎ (status ≡ Memory)
+  accept_by : (airings : List AiredTables) (bytes : List ℕ) (status : Status)
+      → IsRecordedAir rate nulls airings bytes → (status ≡ ReadFault Recording → ⊥)
+      → DecidedBy rate nulls airings status bytes → (status ≡ Done) ⊎ (status ≡ Memory)
   accept_by airings bytes Done air no_reading by = inl refl
   accept_by airings bytes other air no_reading by = absurd (no_fault airings bytes other air no_reading by)
 
   same_bytes : (a b : List ℕ) → file_at path files ≡ Some a → file_at path files ≡ Some b → a ≡ b
   same_bytes a b at too = (let same : (let o : Option (List ℕ) = Some a in o) ≡ Some b = sym at ∙ too in cc same)
 
-  accepts : (status : Status) → Decided status → AtPath path files (IsRecordedAir nulls aired) → (status ≡ ReadFault Recording → ⊥) → (status ≡ Done) ⊎ (status ≡ Memory)
+  accepts : (status : Status) → Decided status → AtPath path files (IsRecordedAir rate nulls aired)
+      → (status ≡ ReadFault Recording → ⊥) → (status ≡ Done) ⊎ (status ≡ Memory)
   accepts status (inl memory) air no_reading = inr memory
   accepts status (inr by) air no_reading =
-      accept_by aired by.bytes status (subst (IsRecordedAir nulls aired) (same_bytes air.bytes by.bytes air.file by.file) air.is) no_reading by.is
+      accept_by aired by.bytes status
+      (subst (IsRecordedAir rate nulls aired) (same_bytes air.bytes by.bytes air.file by.file)
+      air.is) no_reading by.is
 
 -- ---- the run
 

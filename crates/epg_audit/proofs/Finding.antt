@@ -30,13 +30,14 @@ use Rattle.epg_play.proofs.RunFacts.{IsPlayed, IsUndescribed, PlayedBy, rest_pla
 use Rattle.epg_audit.specs.declared.cycles.AirCount.{AirCount}
 use Rattle.epg_audit.specs.Audits.{AuditDid, CycleStops, EndStops, IsCounted, IsOfScript, RecordingAudited, ScriptStops, desk_airings}
 use Rattle.journal_model.specs.declared.step.Entry.{Entry}
-use Rattle.air_audit.specs.Audits.{AreAnAir}
 use Rattle.epg_report.specs.Asked.{AtPath}
 use Rattle.epg_report.specs.Told.{OpenerAsked}
 use Rattle.epg_audit.specs.Finds.{AskedOnceDescribed, FindsIn, IsAccepted, IsAtFault, IsFound, StopsBehind}
 use Rattle.journal_screen.specs.Heard.{IsHeardAs}
-use Rattle.epg_audit.specs.Recorded.{BeginsWithAir, IsFaulty, IsRecordedAir, airings_for, script_airings, seen}
+use Rattle.epg_audit.specs.Recorded.{BeginsWithAir, IsFaulty, IsRecordedAir, airings_for, script_airings, rate_in}
 use Rattle.epg_audit.proofs.Airings.{desk_begins_script, desk_is_script, script_heard, script_sent}
+use Rattle.cycle_audit.specs.Airs.{AreAirAt}
+use Rattle.timed_audit.specs.Airs.{seen}
 
 -- ---- a script that stops
 
@@ -49,12 +50,23 @@ if_some None mux Is e is = cc e
 if_some (Some other) mux Is e is = is
 
 stops_behind : (path : List ℕ) (nulls : Bool) (files : Files) (opener : OpenerAsked) (script : Script) (stop : Stop) (mux : Mux) (desk : DeskState) (bytes : List ℕ) → IsPlayed script stop mux desk → file_at path files ≡ Some bytes
-    → BeginsWithAir nulls (desk_airings desk) bytes → Tries opener.tried_old opener.tried_new path → StopsBehind path nulls files opener script stop
+    → BeginsWithAir desk.mux.rate nulls (desk_airings desk) bytes
+    → Tries opener.tried_old opener.tried_new path
+    → StopsBehind path nulls files opener script stop
 stops_behind path nulls files opener script stop mux desk bytes p file begins tried = record {
   stopped = p.stopped;
   asked = subst (λ (o : Option Mux). AskedOnceDescribed o path opener) (sym p.described) tried;
-  begins = if_some script.mux mux (AtPath path files (BeginsWithAir nulls (script_airings script))) p.described
-      (record { bytes = bytes; file = file; is = subst (λ (l : List AiredTables). BeginsWithAir nulls l bytes) (desk_is_script script stop mux desk p) begins });
+  begins = if_some script.mux mux
+      (AtPath path files (BeginsWithAir (rate_in script.mux) nulls (script_airings script)))
+      p.described
+      (record {
+        bytes = bytes;
+        file = file;
+        is = subst (λ (r : Option ℕ). BeginsWithAir r nulls (script_airings script) bytes)
+            (ap (λ (d : DeskState). d.mux.rate) p.did ∙ sym (ap rate_in p.described))
+            (subst (λ (l : List AiredTables). BeginsWithAir desk.mux.rate nulls l bytes)
+            (desk_is_script script stop mux desk p) begins);
+      });
 }
 
 -- a script without a multiplex
@@ -72,7 +84,9 @@ mux_found path nulls files opener text left (mux.Read Failed) is same =
 mux_found path nulls files opener text left mux.Memory is same = tt
 
 script_found : (path : List ℕ) (nulls : Bool) (files : Files) (opener : OpenerAsked) (text bytes : List ℕ) (left : Option (List ℕ)) (mux : Mux) (desk : DeskState) (stop : PlayStop) → PlayedBy text left mux desk (Err stop) → file_at path files ≡ Some bytes
-    → BeginsWithAir nulls (desk_airings desk) bytes → Tries opener.tried_old opener.tried_new path → IsOfScript stop → IsFound path nulls files opener text left (status_for stop)
+    → BeginsWithAir desk.mux.rate nulls (desk_airings desk) bytes
+    → Tries opener.tried_old opener.tried_new path → IsOfScript stop
+    → IsFound path nulls files opener text left (status_for stop)
 script_found path nulls files opener text bytes left mux desk (Undescribed fault) played file begins tried no_air = absurd no_air
 script_found path nulls files opener text bytes left mux desk (Refused n) played file begins tried no_air = stops_behind path nulls files opener (script_in text) _ mux desk bytes played file begins tried
 script_found path nulls files opener text bytes left mux desk (Differs n kept found) played file begins tried no_air = stops_behind path nulls files opener (script_in text) _ mux desk bytes played file begins tried
@@ -107,11 +121,22 @@ module _ {S F : Type 0} (left : S → Option (List ℕ)) (gives : F → Option (
       let p = went_played left source mid new text mux desk c.made ahead c.went in
       let more = desk_begins_script (script_in text) mux desk p in
       let sent = subst CanBeSent (script_is mux p.described ∙ more.1) (script_sent text mux p.described) in
+      let own : desk.mux.rate ≡ rate_in (script_in text).mux =
+      ap (λ (d : DeskState). d.mux.rate) p.did ∙ sym (ap rate_in p.described) in
+      let faulty_with = λ (others : List AiredTables) (can : CanBeSent others). subst
+      (λ (r : Option ℕ). IsFaulty r nulls (desk_airings desk ++ others) bytes status) own
+      (c.faulty bytes tells others can) in
       recording_found path nulls files opener text bytes (left new.source) mux status p.described file
       (record {
-        faulty = subst (λ (l : List AiredTables). IsFaulty nulls l bytes status) (sym more.1) (c.faulty bytes tells more.0 (all_behind _ (desk_airings desk) more.0 sent));
-        first = inr (λ others can. subst (λ (l : List AiredTables). IsFaulty nulls l bytes status) (sym (append_assoc (desk_airings desk) more.0 others) ∙ ap (λ (l : List AiredTables). l ++ others) (sym more.1))
-            (c.faulty bytes tells (more.0 ++ others) (all_append _ more.0 others (all_behind _ (desk_airings desk) more.0 sent) can)));
+        faulty = subst (λ (l : List AiredTables). IsFaulty (rate_in (script_in text).mux) nulls l
+            bytes status) (sym more.1) (faulty_with more.0
+            (all_behind _ (desk_airings desk) more.0 sent));
+        first = inr (λ others can. subst
+            (λ (l : List AiredTables). IsFaulty (rate_in (script_in text).mux) nulls l bytes status)
+            (sym (append_assoc (desk_airings desk) more.0 others)
+            ∙ ap (λ (l : List AiredTables). l ++ others) (sym more.1))
+            (faulty_with (more.0 ++ others)
+            (all_append _ more.0 others (all_behind _ (desk_airings desk) more.0 sent) can)));
       })
     where
       script_is : (m : Mux) → (script_in text).mux ≡ Some m → airings m (journal_of m (script_in text).commands) ≡ script_airings (script_in text)
@@ -122,7 +147,11 @@ module _ {S F : Type 0} (left : S → Option (List ℕ)) (gives : F → Option (
       let p = rest_played left source mid new text mux desk (Ok tt) told ahead came e.ended in
       recording_found path nulls files opener text bytes (left new.source) mux status p.described file
       (record {
-        faulty = subst (λ (l : List AiredTables). IsFaulty nulls l bytes status) (desk_is_script (script_in text) Ended mux desk p) (e.faulty bytes tells);
+        faulty = subst (λ (l : List AiredTables). IsFaulty (rate_in (script_in text).mux) nulls l
+            bytes status) (desk_is_script (script_in text) Ended mux desk p)
+            (subst (λ (r : Option ℕ). IsFaulty r nulls (desk_airings desk) bytes status)
+            (ap (λ (d : DeskState). d.mux.rate) p.did ∙ sym (ap rate_in p.described))
+            (e.faulty bytes tells));
         first = inl p.stopped;
       })
 
@@ -146,7 +175,10 @@ module _ {S F : Type 0} (left : S → Option (List ℕ)) (gives : F → Option (
   accepted desk count did counts =
       let p = rest_played left source mid new text mux desk (Ok tt) told ahead came did.0 in
       let same : desk_airings desk ≡ airings mux (whole_journal (script_in text)) = desk_is_script (script_in text) Ended mux desk p ∙ described p.described in
-      let air : IsRecordedAir nulls (airings mux (whole_journal (script_in text))) bytes = subst (λ (l : List AiredTables). IsRecordedAir nulls l bytes) same (did.1 bytes tells) in
+      let air : IsRecordedAir mux.rate nulls (airings mux (whole_journal (script_in text))) bytes =
+      subst (λ (l : List AiredTables). IsRecordedAir mux.rate nulls l bytes) same
+      (subst (λ (r : Option ℕ). IsRecordedAir r nulls (desk_airings desk) bytes)
+      (ap (λ (d : DeskState). d.mux.rate) p.did) (did.1 bytes tells)) in
       record {
         ended = p.stopped;
         mux = mux;
@@ -154,8 +186,11 @@ module _ {S F : Type 0} (left : S → Option (List ℕ)) (gives : F → Option (
         bytes = bytes;
         file = file;
         air = air;
-        heard = subst (λ (j : List Entry). IsHeardAs mux j (seen nulls (whole_packets bytes))) (journal_is p.described) (script_heard text mux (seen nulls (whole_packets bytes)) p.described
-            (subst (λ (j : List Entry). AreAnAir (airings mux j) (seen nulls (whole_packets bytes))) (sym (journal_is p.described)) air.air));
+        heard = subst (λ (j : List Entry). IsHeardAs mux j (seen nulls (whole_packets bytes)))
+            (journal_is p.described) (script_heard text mux nulls (seen nulls (whole_packets bytes))
+            p.described
+            (subst (λ (j : List Entry). AreAirAt mux.rate nulls (airings mux j)
+            (seen nulls (whole_packets bytes))) (sym (journal_is p.described)) air.air));
         counts = subst (λ (l : List AiredTables). IsCounted nulls bytes l count) same (counts bytes tells);
       }
     where

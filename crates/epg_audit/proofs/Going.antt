@@ -18,11 +18,8 @@ use Rattle.journal_air.specs.Air.{airings, mux_form}
 use Rattle.version_book.specs.Airings.{AiredTables}
 use Rattle.ts_packets.specs.WholePackets.{whole_packets}
 use Rattle.air_model.specs.declared.rule.Rule.{Rule}
-use Rattle.air_audit.specs.Audits.{AreAnAir}
-use Rattle.air_audit.specs.Checking.{Checking, IsAtEnd}
-use Rattle.air_audit.proofs.Checks.{end_is_air, stands_begins}
-use Rattle.headend_jobs.specs.OnAir.{airing_on, is_swap}
-use Rattle.headend_jobs.proofs.SwapFacts.{airings-other, airings-swap}
+use Rattle.air_sending.specs.OnAir.{airing_on, is_swap}
+use Rattle.air_sending.proofs.SwapFacts.{airings-other, airings-swap}
 use Rattle.epg_report.specs.declared.status.Status.{Status}
 use Rattle.epg_report.specs.declared.status.Status.TheVariants.{Disagrees, BadStream, Memory, NotAir, ReadFault, Short, TooLong}
 use Rattle.epg_report.specs.declared.status.Origin.TheVariants.{Feed, Input, Recording}
@@ -35,9 +32,13 @@ use Rattle.epg_play.specs.Played.{HasReadCause as HasInputCause}
 use Rattle.epg_audit.specs.Audits.{AuditDid, HasAuditCause, IsOfScript, ScriptStops, desk_airings}
 use Rattle.epg_audit.specs.Checks.{AreTaken, Checks, Follows, GivesEnd, GivesNoMore, HasReadCause, IsOfCheck}
 use Rattle.epg_audit.specs.Finds.{IsMetBehind}
-use Rattle.epg_audit.specs.Recorded.{BeginsWithAir, IsFaulty, passed_over, seen}
+use Rattle.epg_audit.specs.Recorded.{BeginsWithAir, IsFaulty, passed_over}
 use Rattle.epg_audit.proofs.Faults.{cut_short, differs_at_end, past_limit, recorded}
 use Rattle.epg_audit.proofs.Pieces.{front_is, packets_parted, packets_taken}
+use Rattle.cycle_audit.specs.Airs.{AreAirAt}
+use Rattle.cycle_audit.specs.Checking.{Auditing, IsAtEnd, form_of}
+use Rattle.cycle_audit.proofs.Laws.{end_is_air, stands_begins}
+use Rattle.timed_audit.specs.Airs.{seen}
 
 -- ---- what a step puts on air
 
@@ -55,7 +56,9 @@ kept mux xs who (edit feed e) legal is = airings-other mux xs (entry_after mux x
 kept mux xs who (Tick at) legal is = airings-other mux xs (entry_after mux xs (who, Tick at)) legal (not_aired (moment_of mux xs) at)
 
 -- a swap puts one airing more on air, in a cycle of the checker's form
-pub swap_adds : (desk new : DeskState) (c : Checking) → Legal desk.mux desk.entries → StepAt true desk new → c.form ≡ mux_form desk.mux → desk_airings desk ++ airing_on new c.form ∷ [] ≡ desk_airings new
+pub swap_adds : (desk new : DeskState) (c : Auditing) → Legal desk.mux desk.entries
+    → StepAt true desk new → form_of c ≡ mux_form desk.mux
+    → desk_airings desk ++ airing_on new (form_of c) ∷ [] ≡ desk_airings new
 swap_adds desk new c legal s form =
     ap (λ (f : CycleForm). desk_airings desk ++ airing_on new f ∷ []) form
     ∙ ap (λ (d : DeskState). desk_airings desk ++ airing_on d (mux_form desk.mux) ∷ []) s.did
@@ -138,23 +141,31 @@ stop_same old new NoMemory did = inl refl
 -- ---- what an audit does
 
 module _ {S F : Type 0} (nulls : Bool) (left : S → Option (List ℕ)) (gives : F → Option (List ℕ)) (first now : Reading S) (start mid new : PacketReading F) (before desk : DeskState) where
+  abbrev rate : Option ℕ
+  rate = desk.mux.rate
+
   abbrev Did : Result (Unit {0}) Status → Type 0
   Did result = AuditDid nulls left gives first now start before desk result
 
   -- the packets so far are an air of what the desk has put on air
-  front_air : (airings : List AiredTables) (c : Checking) (passed : Option ℕ) (bytes : List ℕ) → (f : Follows nulls gives start mid airings c passed) → IsAtEnd c → bytes_left gives start ≡ Some bytes → BeginsWithAir nulls airings bytes
-  front_air airings c passed bytes f end told =
+  front_air : (rate : Option ℕ) (airings : List AiredTables) (c : Auditing) (passed : Option ℕ)
+      (bytes : List ℕ) → (f : Follows rate nulls gives start mid airings c passed) → IsAtEnd c
+      → bytes_left gives start ≡ Some bytes → BeginsWithAir rate nulls airings bytes
+  front_air rate airings c passed bytes f end told =
       let t = f.taken bytes told in
       let all = packets_parted bytes f.packets t.0 t.2 in
       let front : take (length f.packets) (whole_packets bytes) ≡ f.packets = ap (take (length f.packets)) all ∙ front_is f.packets (whole_packets t.0) (length f.packets) refl in
       record {
         n = length f.packets;
         within = omega (arith, ap length all, length-append f.packets (whole_packets t.0));
-        air = subst (λ (l : List (List ℕ)). AreAnAir airings (seen nulls l)) (sym front) ((end_is_air airings (seen nulls f.packets) c f.stands).0 end);
+        air = subst (λ (l : List (List ℕ)). AreAirAt rate nulls airings (seen nulls l)) (sym front)
+            (end_is_air rate nulls airings (seen nulls f.packets) c f.is_of f.stands end);
       }
 
   -- the script stops
-  pub script_did : (old : DeskState) (c : Checking) (passed : Option ℕ) (stop : PlayStop) → Follows nulls gives start mid (desk_airings old) c passed → IsAtEnd c → ItemDid old desk (Err stop) → Stops 0 left first now before desk (Err stop)
+  pub script_did : (old : DeskState) (c : Auditing) (passed : Option ℕ) (stop : PlayStop)
+      → Follows old.mux.rate nulls gives start mid (desk_airings old) c passed → IsAtEnd c
+      → ItemDid old desk (Err stop) → Stops 0 left first now before desk (Err stop)
       → Did (Err (status_for stop))
   script_did old c passed stop f end did stops = by stop (stop_same old desk stop did) did stops
     where
@@ -164,7 +175,9 @@ module _ {S F : Type 0} (nulls : Bool) (left : S → Option (List ℕ)) (gives :
         is = refl;
         of_script = item_of_script old desk s did;
         stops = stops;
-        behind = λ bytes told. subst (λ (d : DeskState). BeginsWithAir nulls (desk_airings d) bytes) (sym same) (front_air (desk_airings old) c passed bytes f end told);
+        behind = λ bytes told. subst (λ (d : DeskState). BeginsWithAir d.mux.rate nulls
+            (desk_airings d) bytes) (sym same)
+            (front_air old.mux.rate (desk_airings old) c passed bytes f end told);
       }
 
       by : (s : PlayStop) → (s ≡ NoMemory) ⊎ (desk ≡ old) → ItemDid old desk (Err s) → Stops 0 left first now before desk (Err s) → Did (Err (status_for s))
@@ -177,33 +190,47 @@ module _ {S F : Type 0} (nulls : Bool) (left : S → Option (List ℕ)) (gives :
       by NoMemory is did stops = tt
 
   -- the recording is at fault in a cycle
-  pub cycle_did : (airings : List AiredTables) (c : Checking) (passed : Option ℕ) (made : Option Outcome) (status : Status) → airings ≡ desk_airings desk → Went 0 left first now before desk made → Checks nulls gives start new airings c passed (Err status)
+  pub cycle_did : (airings : List AiredTables) (c : Auditing) (passed : Option ℕ)
+      (made : Option Outcome) (status : Status) → airings ≡ desk_airings desk
+      → Went 0 left first now before desk made
+      → Checks rate nulls gives start new airings c passed (Err status)
       → Did (Err status)
   cycle_did airings c passed made Memory same went checks = tt
   cycle_did airings c passed made status same went checks = by status went checks
     where
-      by : (s : Status) → Went 0 left first now before desk made → Checks nulls gives start new airings c passed (Err s) → Did (Err s)
+      by : (s : Status) → Went 0 left first now before desk made
+          → Checks rate nulls gives start new airings c passed (Err s) → Did (Err s)
       by Memory went checks = tt
       by other went checks = inr (inl (record {
         made = made;
         went = went;
-        faulty = λ bytes told others can. subst (λ (l : List AiredTables). IsFaulty nulls (l ++ others) bytes other) same (checks bytes told others can);
+        faulty = λ bytes told others can. subst
+            (λ (l : List AiredTables). IsFaulty rate nulls (l ++ others) bytes other) same
+            (checks bytes told others can);
       }))
 
   -- the script is at its end
-  end_faulty : (airings : List AiredTables) (c : Checking) (passed : Option ℕ) (bytes : List ℕ) (status : Status) → (f : Follows nulls gives start mid airings c passed) → IsAtEnd c → bytes_left gives start ≡ Some bytes → GivesEnd nulls gives mid (Err status)
-      → IsFaulty nulls airings bytes status
+  end_faulty : (airings : List AiredTables) (c : Auditing) (passed : Option ℕ) (bytes : List ℕ)
+      (status : Status) → (f : Follows rate nulls gives start mid airings c passed) → IsAtEnd c
+      → bytes_left gives start ≡ Some bytes → GivesEnd nulls gives mid (Err status)
+      → IsFaulty rate nulls airings bytes status
   end_faulty airings c passed bytes status f end told ends = by status (ends t.0 t.1)
     where
       t : (rest : List ℕ) × (bytes_left gives mid ≡ Some rest) × AreTaken bytes f.packets rest
       t = f.taken bytes told
 
-      by : (s : Status) → GivesNoMore nulls t.0 mid.number (Err s) → IsFaulty nulls airings bytes s
+      by : (s : Status) → GivesNoMore nulls t.0 mid.number (Err s)
+          → IsFaulty rate nulls airings bytes s
       by (NotAir n rule) is =
-          subst (λ (r : Rule). IsFaulty nulls airings bytes (NotAir n r)) (sym is.1)
-          (differs_at_end nulls airings bytes f.packets t.0 n f.stands.can_be_sent ((end_is_air airings (seen nulls f.packets) c f.stands).0 end) (stands_begins airings (seen nulls f.packets) c f.stands) t.2 is.2 is.3 (is.0 ∙ f.number))
-      by (BadStream n) is = cut_short nulls airings bytes f.packets t.0 n (stands_begins airings (seen nulls f.packets) c f.stands) t.2 is.1 is.2 (is.0 ∙ f.number)
-      by (TooLong Recording) is = past_limit nulls airings bytes f.packets t.0 (stands_begins airings (seen nulls f.packets) c f.stands) t.2 is.1 (omega (arith, is.0, f.number, f.within))
+          subst (λ (r : Rule). IsFaulty rate nulls airings bytes (NotAir n r)) (sym is.1)
+          (differs_at_end rate nulls airings bytes f.packets t.0 n c f.is_of f.stands end t.2 is.2
+          is.3 (is.0 ∙ f.number))
+      by (BadStream n) is = cut_short rate nulls airings bytes f.packets t.0 n
+          (stands_begins rate nulls airings (seen nulls f.packets) c f.is_of f.stands) t.2 is.1 is.2
+          (is.0 ∙ f.number)
+      by (TooLong Recording) is = past_limit rate nulls airings bytes f.packets t.0
+          (stands_begins rate nulls airings (seen nulls f.packets) c f.is_of f.stands) t.2 is.1
+          (omega (arith, is.0, f.number, f.within))
       by (TooLong Input) is = is
       by (TooLong (Feed f)) is = is
       by (ReadFault Recording) is = tt
@@ -211,12 +238,16 @@ module _ {S F : Type 0} (nulls : Bool) (left : S → Option (List ℕ)) (gives :
       by (ReadFault (Feed f)) is = is
       by other is = absurd is
 
-  pub end_did : (c : Checking) (passed : Option ℕ) (result : Result (Unit {0}) Status) → Follows nulls gives start mid (desk_airings desk) c passed → IsAtEnd c → Stops 0 left first now before desk (Ok tt) → GivesEnd nulls gives mid result → Did result
+  pub end_did : (c : Auditing) (passed : Option ℕ) (result : Result (Unit {0}) Status)
+      → Follows rate nulls gives start mid (desk_airings desk) c passed → IsAtEnd c
+      → Stops 0 left first now before desk (Ok tt) → GivesEnd nulls gives mid result → Did result
   end_did c passed (Ok u) f end stops ends = (
     stops,
     λ bytes told.
         let t = f.taken bytes told in
-        recorded nulls (desk_airings desk) bytes f.packets t.0 ((end_is_air (desk_airings desk) (seen nulls f.packets) c f.stands).0 end) t.2 (ends t.0 t.1) f.within,
+        recorded rate nulls (desk_airings desk) bytes f.packets t.0
+        (end_is_air rate nulls (desk_airings desk) (seen nulls f.packets) c f.is_of f.stands
+        end) t.2 (ends t.0 t.1) f.within,
   )
   end_did c passed (Err status) f end stops ends = by status ends
     where
@@ -228,14 +259,20 @@ module _ {S F : Type 0} (nulls : Bool) (left : S → Option (List ℕ)) (gives :
   abbrev pub AreCounted : Option ℕ → List ℕ → Type 0
   AreCounted passed bytes = (new.number ≡ length (whole_packets bytes)) × (passed ≡ passed_over nulls (whole_packets bytes))
 
-  end_number : (c : Checking) (passed : Option ℕ) (bytes : List ℕ) → (f : Follows nulls gives start mid (desk_airings desk) c passed) → bytes_left gives start ≡ Some bytes → GivesEnd nulls gives mid (Ok tt) → new.number ≡ mid.number
+  end_number : (c : Auditing) (passed : Option ℕ) (bytes : List ℕ)
+      → (f : Follows rate nulls gives start mid (desk_airings desk) c passed)
+      → bytes_left gives start ≡ Some bytes → GivesEnd nulls gives mid (Ok tt)
+      → new.number ≡ mid.number
       → AreCounted passed bytes
   end_number c passed bytes f told ends same =
       let t = f.taken bytes told in
       let all : whole_packets bytes ≡ f.packets = packets_taken bytes f.packets t.0 t.2 (omega (arith, ap length (ends t.0 t.1))) in
       (same ∙ f.number ∙ sym (ap length all), f.counted ∙ sym (ap (passed_over nulls) all))
 
-  pub end_counts : (c : Checking) (passed : Option ℕ) (bytes : List ℕ) (result : Result (Unit {0}) Status) → Follows nulls gives start mid (desk_airings desk) c passed → bytes_left gives start ≡ Some bytes → GivesEnd nulls gives mid result
+  pub end_counts : (c : Auditing) (passed : Option ℕ) (bytes : List ℕ)
+      (result : Result (Unit {0}) Status)
+      → Follows rate nulls gives start mid (desk_airings desk) c passed
+      → bytes_left gives start ≡ Some bytes → GivesEnd nulls gives mid result
       → OnOk result (new.number ≡ mid.number) → OnOk result (AreCounted passed bytes)
   end_counts c passed bytes (Ok u) f told ends same = end_number c passed bytes f told ends same
   end_counts c passed bytes (Err status) f told ends same = tt

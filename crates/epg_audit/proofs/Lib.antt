@@ -6,3 +6,4 @@ pub mod Airings
 pub mod Finding
 pub mod AuditRuns
 pub mod Going
+pub mod Plain

@@ -1,12 +1,13 @@
 -- Null packets, one packet after the other.
-use Rattle.std.proofs.Common.{◌≡◌, ℕ, Bool, true, false, not, List, [], ◌∷◌, ◌++◌, refl, sym, subst, is_some}
+use Rattle.std.proofs.Common.{◌≡◌, ℕ, Bool, true, false, not, List, [], ◌∷◌, ◌++◌, refl, sym}
 use Rattle.std.specs.Prelude.{Option}
 use Rattle.std.specs.Bool.{then_some}
 use Rattle.std.proofs.lemmas.List.Elements.{filter-append}
 use Rattle.air_audit.specs.Checking.{has_shape}
-use Rattle.air_audit.specs.Passing.{is_null, past_nulls}
+use Rattle.air_audit.specs.Passing.{is_null}
 use Rattle.air_audit.proofs.Passing.{null_more, other_more}
-use Rattle.epg_audit.specs.Recorded.{is_passed, passed_over, seen}
+use Rattle.epg_audit.specs.Recorded.{is_passed, passed_over}
+use Rattle.timed_audit.specs.Airs.{seen}
 
 -- ---- what is looked at
 
@@ -37,12 +38,9 @@ pub none_yet : (nulls : Bool) (passed : Option ℕ) → passed ≡ then_some nul
 none_yet false passed is = is
 none_yet true passed is = is
 
--- what holds where none may stand holds where they are not counted
-pub by_none : (P : Bool → Type 0) (nulls : Bool) (packets : List (List ℕ)) (passed : Option ℕ) → is_some passed ≡ false → passed ≡ passed_over nulls packets → P false → P nulls
-by_none P false packets passed none is p = p
-by_none P true packets passed none is p = (let no : is_some (passed_over true packets) ≡ false = subst (λ (o : Option ℕ). is_some o ≡ false) is none in cc no)
-
--- and what holds where they may, where they are
-pub by_some : (P : Bool → Type 0) (nulls : Bool) (packets : List (List ℕ)) (passed : Option ℕ) → is_some passed ≡ true → passed ≡ passed_over nulls packets → P true → P nulls
-by_some P true packets passed some is p = p
-by_some P false packets passed some is p = (let no : is_some (passed_over false packets) ≡ true = subst (λ (o : Option ℕ). is_some o ≡ true) is some in cc no)
+-- whether null packets may stand is told by how they are counted
+pub same_nulls : (one two : Bool) → passed_over one [] ≡ passed_over two [] → one ≡ two
+same_nulls false false e = refl
+same_nulls true true e = refl
+same_nulls false true e = cc e
+same_nulls true false e = cc e

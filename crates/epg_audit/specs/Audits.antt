@@ -41,22 +41,25 @@ module _ {S F : Type 0} (nulls : Bool) (left : S → Option (List ℕ)) (gives :
     pub is : status ≡ status_for stop
     pub of_script : IsOfScript stop
     pub stops : Stops 0 left old now before desk (Err stop)
-    pub behind : OfRecording (BeginsWithAir nulls (desk_airings desk))
+    pub behind : OfRecording (BeginsWithAir desk.mux.rate nulls (desk_airings desk))
 
   -- the recording is at fault in the cycle of the last command that was done, whatever airings follow
   pub record CycleStops (status : Status) : Type 0 where
     pub made : Option Outcome
     pub went : Went 0 left old now before desk made
-    pub faulty : OfRecording (λ bytes. (others : List AiredTables) → CanBeSent others → IsFaulty nulls (desk_airings desk ++ others) bytes status)
+    pub faulty : OfRecording (λ bytes. (others : List AiredTables) → CanBeSent others
+        → IsFaulty desk.mux.rate nulls (desk_airings desk ++ others) bytes status)
 
   -- the recording is at fault behind the last cycle of a script that is whole
   pub record EndStops (status : Status) : Type 0 where
     pub ended : Stops 0 left old now before desk (Ok tt)
-    pub faulty : OfRecording (λ bytes. IsFaulty nulls (desk_airings desk) bytes status)
+    pub faulty : OfRecording (λ bytes. IsFaulty desk.mux.rate nulls (desk_airings desk) bytes
+        status)
 
   -- an audit of the rest of a script goes through, or stops
   abbrev pub AuditDid : Result (Unit {0}) Status → Type 0
-  AuditDid (Ok u) = Stops 0 left old now before desk (Ok tt) × OfRecording (IsRecordedAir nulls (desk_airings desk))
+  AuditDid (Ok u) = Stops 0 left old now before desk (Ok tt)
+      × OfRecording (IsRecordedAir desk.mux.rate nulls (desk_airings desk))
   AuditDid (Err Memory) = Unit {0}
   AuditDid (Err status) = ScriptStops status ⊎ (CycleStops status ⊎ EndStops status)
 

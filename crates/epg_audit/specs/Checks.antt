@@ -10,33 +10,41 @@ use Rattle.ts_packets.specs.WholePackets.{AreWhole}
 use Rattle.air_model.specs.Air.{CanBeSent}
 use Rattle.air_model.specs.declared.rule.Rule.{Rule}
 use Rattle.air_model.specs.declared.rule.Rule.TheVariants.{Pid}
-use Rattle.air_audit.specs.Checking.{Checking, StandsFor}
 use Rattle.epg_report.specs.declared.status.Status.{Status}
 use Rattle.epg_report.specs.declared.status.Status.TheVariants.{BadStream, Memory, NotAir, ReadFault, Short, TooLong}
 use Rattle.epg_report.specs.declared.status.Origin.TheVariants.{Recording}
-use Rattle.epg_audit.specs.Recorded.{IsFaulty, is_passed, passed_over, seen}
+use Rattle.epg_audit.specs.Recorded.{IsFaulty, is_passed, passed_over}
+use Rattle.cycle_audit.specs.Checking.{Auditing, IsOf, StandsAt}
+use Rattle.timed_audit.specs.Airs.{seen}
 
 -- Of bytes these packets were taken, and the others are left.
 pub record AreTaken (bytes : List ℕ) (packets : List (List ℕ)) (rest : List ℕ) : Type 0 where
   pub parted : bytes ≡ flat_map (λ (p : List ℕ). p) packets ++ rest
   pub whole : AreWhole packets
 
--- From start to now a reader gave packets which a checker of these airings has accepted, each of them; or, where null packets may stand,
+-- From start to now a reader gave packets which a checker of these airings, at this bit rate or
+-- without one, has accepted, each of them; or, where null packets may stand,
 -- has passed over, so many.
-pub record Follows {F : Type 0} (nulls : Bool) (left : F → Option (List ℕ)) (start now : PacketReading F) (airings : List AiredTables) (checker : Checking) (passed : Option ℕ) : Type 0 where
+pub record Follows {F : Type 0} (rate : Option ℕ) (nulls : Bool) (left : F → Option (List ℕ))
+    (start now : PacketReading F) (airings : List AiredTables) (checker : Auditing)
+    (passed : Option ℕ) : Type 0 where
   pub packets : List (List ℕ)
-  pub stands : StandsFor airings (seen nulls packets) checker
+  pub is_of : IsOf rate nulls checker
+  pub stands : StandsAt airings (seen nulls packets) checker
   pub number : now.number ≡ length packets
   pub within : length packets ≤ packet_limit
   pub counted : passed ≡ passed_over nulls packets
   pub taken : (bytes : List ℕ) → bytes_left left start ≡ Some bytes → (rest : List ℕ) × (bytes_left left now ≡ Some rest) × AreTaken bytes packets rest
 
 -- a cycle was checked to its end, or the recording is at fault, whatever airings follow
-abbrev pub Checks : {F : Type 0} → Bool → (F → Option (List ℕ)) → PacketReading F → PacketReading F → List AiredTables → Checking → Option ℕ → Result (Unit {0}) Status → Type 0
-Checks nulls left start now airings checker passed (Ok u) = Follows nulls left start now airings checker passed
-Checks nulls left start now airings checker passed (Err Memory) = Unit {0}
-Checks nulls left start now airings checker passed (Err status) =
-    (bytes : List ℕ) → bytes_left left start ≡ Some bytes → (others : List AiredTables) → CanBeSent others → IsFaulty nulls (airings ++ others) bytes status
+abbrev pub Checks : {F : Type 0} → Option ℕ → Bool → (F → Option (List ℕ)) → PacketReading F
+    → PacketReading F → List AiredTables → Auditing → Option ℕ → Result (Unit {0}) Status → Type 0
+Checks rate nulls left start now airings checker passed (Ok u) =
+    Follows rate nulls left start now airings checker passed
+Checks rate nulls left start now airings checker passed (Err Memory) = Unit {0}
+Checks rate nulls left start now airings checker passed (Err status) =
+    (bytes : List ℕ) → bytes_left left start ≡ Some bytes → (others : List AiredTables)
+    → CanBeSent others → IsFaulty rate nulls (airings ++ others) bytes status
 
 -- the status of a recording that gives no further packet
 abbrev pub recording_status : {F : Type 0} → PacketReading F → PacketStop → Rule → Status
@@ -67,9 +75,11 @@ abbrev pub GivesEnd : {F : Type 0} → Bool → (F → Option (List ℕ)) → Pa
 GivesEnd nulls left last result = (rest : List ℕ) → bytes_left left last ≡ Some rest → GivesNoMore nulls rest last.number result
 
 -- From start on a reader gave such packets up to the last one that may stand, and then no more, or what is at fault.
-pub record Ends {F : Type 0} (nulls : Bool) (left : F → Option (List ℕ)) (start now : PacketReading F) (airings : List AiredTables) (checker : Checking) (passed : Option ℕ) (result : Result (Unit {0}) Status) : Type 0 where
+pub record Ends {F : Type 0} (rate : Option ℕ) (nulls : Bool) (left : F → Option (List ℕ))
+    (start now : PacketReading F) (airings : List AiredTables) (checker : Auditing)
+    (passed : Option ℕ) (result : Result (Unit {0}) Status) : Type 0 where
   pub last : PacketReading F
-  pub follows : Follows nulls left start last airings checker passed
+  pub follows : Follows rate nulls left start last airings checker passed
   pub gives : GivesEnd nulls left last result
   pub number : OnOk result (now.number ≡ last.number)
 

@@ -1,9 +1,8 @@
 -- What an audit finds of the text of its input and of the file of its recording.
-use Rattle.std.specs.Prelude.{◌≡◌, ◌⊎◌, ℕ, Bool, List, ◌++◌, map, Option, Some, None, IfSome, IsSome, Ok, Err, Result}
+use Rattle.std.specs.Prelude.{◌≡◌, ◌⊎◌, ℕ, Bool, List, ◌++◌, Option, Some, None, IfSome, IsSome, Ok, Err, Result}
 use Rattle.si_causes.specs.Causes.{Rose}
 use Rattle.si_causes.specs.Opening.{Files, Tries, file_at}
 use Rattle.mux_model.specs.declared.mux.Mux.{Mux}
-use Rattle.journal_model.specs.declared.step.Entry.{Entry}
 use Rattle.ts_packets.specs.WholePackets.{whole_packets}
 use Rattle.version_book.specs.Airings.{AiredTables}
 use Rattle.air_model.specs.Air.{CanBeSent}
@@ -18,16 +17,19 @@ use Rattle.epg_play.specs.Script.{Script, Stop, Ended, NoMux, NoCommand, Disagre
 use Rattle.epg_play.specs.Leaves.{whole_journal}
 use Rattle.epg_audit.specs.declared.cycles.AirCount.{AirCount}
 use Rattle.epg_audit.specs.Audits.{IsCounted}
-use Rattle.epg_audit.specs.Recorded.{BeginsWithAir, IsFaulty, IsRecordedAir, script_airings, seen}
+use Rattle.epg_audit.specs.Recorded.{BeginsWithAir, IsFaulty, IsRecordedAir, rate_in, script_airings}
+use Rattle.timed_audit.specs.Airs.{seen}
 
--- The script is whole, and the recording is an air of its journal, of so many packets and swaps.
+-- The script is whole, and the recording is an air of its journal, of so many packets and swaps. At
+-- a
+-- bit rate it is the air of the player.
 pub record IsAccepted (path : List ℕ) (nulls : Bool) (files : Files) (script : Script) (count : AirCount) : Type 0 where
   pub ended : script.stop ≡ Ended
   pub mux : Mux
   pub described : script.mux ≡ Some mux
   pub bytes : List ℕ
   pub file : file_at path files ≡ Some bytes
-  pub air : IsRecordedAir nulls (airings mux (whole_journal script)) bytes
+  pub air : IsRecordedAir mux.rate nulls (airings mux (whole_journal script)) bytes
   pub heard : IsHeardAs mux (whole_journal script) (seen nulls (whole_packets bytes))
   pub counts : IsCounted nulls bytes (airings mux (whole_journal script)) count
 
@@ -39,7 +41,8 @@ AskedOnceDescribed (Some mux) path opener = Tries opener.tried_old opener.tried_
 -- The script stops so; and where a multiplex is described, the recording begins with an air of what its commands put on air.
 pub record StopsBehind (path : List ℕ) (nulls : Bool) (files : Files) (opener : OpenerAsked) (script : Script) (stop : Stop) : Type 0 where
   pub stopped : script.stop ≡ stop
-  pub begins : IfSome script.mux (λ mux. AtPath path files (BeginsWithAir nulls (script_airings script)))
+  pub begins : IfSome script.mux
+      (λ mux. AtPath path files (BeginsWithAir (rate_in script.mux) nulls (script_airings script)))
   pub asked : AskedOnceDescribed script.mux path opener
 
 -- A read of the input failed: the script of the lines that were whole in the bytes taken.
@@ -53,8 +56,10 @@ pub record StopsUnread (path : List ℕ) (nulls : Bool) (files : Files) (opener 
 -- The recording is at fault, before what the commands of a script put on air has ended, or behind it where the script is whole: so whatever
 -- airings follow, or none do.
 pub record IsAtFault (nulls : Bool) (script : Script) (status : Status) (bytes : List ℕ) : Type 0 where
-  pub faulty : IsFaulty nulls (script_airings script) bytes status
-  pub first : (script.stop ≡ Ended) ⊎ ((others : List AiredTables) → CanBeSent others → IsFaulty nulls (script_airings script ++ others) bytes status)
+  pub faulty : IsFaulty (rate_in script.mux) nulls (script_airings script) bytes status
+  pub first : (script.stop ≡ Ended)
+      ⊎ ((others : List AiredTables) → CanBeSent others
+      → IsFaulty (rate_in script.mux) nulls (script_airings script ++ others) bytes status)
 
 -- What is at fault, by the status: the script, or the recording, or a file that was not opened or read.
 abbrev pub IsFound : List ℕ → Bool → Files → OpenerAsked → List ℕ → Option (List ℕ) → Status → Type 0

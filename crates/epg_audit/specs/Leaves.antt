@@ -14,7 +14,7 @@ use Rattle.epg_audit.specs.declared.cycles.AirCount.{AirCount}
 use Rattle.epg_audit.specs.Ends.{air_line}
 use Rattle.epg_report.specs.Asked.{AtPath, HasAskedFor}
 use Rattle.epg_audit.specs.Finds.{HasMetCause, IsAccepted, IsFound, IsMetByAudit}
-use Rattle.epg_audit.specs.Recorded.{IsFaulty, IsRecordedAir, script_airings}
+use Rattle.epg_audit.specs.Recorded.{IsFaulty, IsRecordedAir, rate_in, script_airings}
 
 -- What a run of `audit` leaves with each status. With Done the report is the one line of the air, and with a fault its line alone.
 abbrev pub LeavesAudit : List ℕ → Bool → Files → OpenerAsked → List ℕ → Option (List ℕ) → ReportTaken → Status → Type 0
@@ -31,9 +31,9 @@ IsOfAudit (WriteFault Report) = Unit {0}
 IsOfAudit status = IsMetByAudit status
 
 -- Of a whole script, the recording decides the status: Done where it is an air, and else what is at fault.
-abbrev pub DecidedBy : Bool → List AiredTables → Status → List ℕ → Type 0
-DecidedBy nulls airings Done bytes = IsRecordedAir nulls airings bytes
-DecidedBy nulls airings status bytes = IsFaulty nulls airings bytes status
+abbrev pub DecidedBy : Option ℕ → Bool → List AiredTables → Status → List ℕ → Type 0
+DecidedBy rate nulls airings Done bytes = IsRecordedAir rate nulls airings bytes
+DecidedBy rate nulls airings status bytes = IsFaulty rate nulls airings bytes status
 
 -- nothing failed: neither the input, nor opening or reading the file, nor the report
 pub record IsUnhindered (opener : OpenerAsked) (input : SourceGave) (report : ReportTaken) : Type 0 where
@@ -49,10 +49,12 @@ pub record AuditRun (path : List ℕ) (nulls : Bool) (opener : OpenerAsked) (inp
   pub leaves : (text : List ℕ) → input.old ≡ Some text → (files : Files) → opener.files ≡ Some files → LeavesAudit path nulls files opener text input.new report status
   -- where nothing fails and the script is whole, the recording decides the status, but for want of memory
   pub decides : (text : List ℕ) → input.old ≡ Some text → (files : Files) → opener.files ≡ Some files → (script_in text).stop ≡ Ended → IsUnhindered opener input report
-      → (status ≡ Memory) ⊎ AtPath path files (DecidedBy nulls (script_airings (script_in text)) status)
+      → (status ≡ Memory) ⊎ AtPath path files
+      (DecidedBy (rate_in (script_in text).mux) nulls (script_airings (script_in text)) status)
   -- and so a recording that is an air of the journal of that script is accepted
   pub accepts : (text : List ℕ) → input.old ≡ Some text → (files : Files) → opener.files ≡ Some files → (script_in text).stop ≡ Ended → IsUnhindered opener input report
-      → AtPath path files (IsRecordedAir nulls (script_airings (script_in text))) → (status ≡ Done) ⊎ (status ≡ Memory)
+      → AtPath path files (IsRecordedAir (rate_in (script_in text).mux) nulls
+      (script_airings (script_in text))) → (status ≡ Done) ⊎ (status ≡ Memory)
   -- no other status comes
   pub known : IsOfAudit status
   -- the opener was asked for the path

@@ -1,14 +1,14 @@
 // The commands of a script, done one after the other, and the cycles that they put on air, held against a recording.
-ghost use Rattle.std.specs.Prelude.{◌≡◌, ◌≤◌, ◌++◌, ◌∷◌, [], Bool, List, ℕ, None, Some, IfErr, OnOk, is_some, length};
+ghost use Rattle.std.specs.Prelude.{◌≡◌, ◌≤◌, ◌++◌, ◌∷◌, [], Bool, List, ℕ, Option, None, Some, IfErr, OnOk, is_some, length};
 ghost use Rattle.std.specs.Io.KnownBytes.{IsAtEnd as IsReadToEnd};
 ghost use Rattle.desk_core.specs.Journal.{Legal};
 ghost use Rattle.desk_core.specs.Publications.{aired_by, swaps};
 ghost use Rattle.packet_reader.specs.Reading.{PacketReading, bytes_left};
 ghost use Rattle.ts_packets.specs.WholePackets.{whole_packets};
 ghost use Rattle.version_book.specs.Airings.{AiredTables};
-ghost use Rattle.air_audit.specs.Checking.{IsAtEnd, StandsFor};
+ghost use Rattle.cycle_audit.specs.Checking.{IsAtEnd, IsOf, StandsAt, form_of};
 ghost use Rattle.journal_air.specs.Air.{mux_form};
-ghost use Rattle.headend_jobs.specs.OnAir.{airing_on};
+ghost use Rattle.air_sending.specs.OnAir.{airing_on};
 ghost use Rattle.epg_report.specs.Texts.{CanBeSaid};
 ghost use Rattle.epg_audit.specs.Audits.{AuditDid, HasAuditCause};
 ghost use Rattle.epg_audit.specs.Finds.{IsMetBehind};
@@ -16,7 +16,7 @@ ghost use Rattle.epg_audit.specs.Checks.{Checks, Follows, HasReadCause, IsOfChec
 ghost use Rattle.epg_audit.specs.Recorded.{passed_over};
 
 use crate::recording::{check_cycle, check_end};
-use air_audit::Checker;
+use cycle_audit::CycleChecker;
 use desk_core::Desk;
 use epg_play::{ItemDone, do_item, status_of};
 use epg_report::Status;
@@ -36,11 +36,14 @@ pub(crate) struct AirCount {
 }
 
 // Has the checker begin the cycle of what is on air at the desk.
-fn begin_cycle(alloc: Global, desk: &Desk, checker: &mut Checker) -> Result<(), AllocError>
+fn begin_cycle(alloc: Global, desk: &Desk, checker: &mut CycleChecker) -> Result<(), AllocError>
     requires at_end { IsAtEnd checker.old }
-    ensures begun { (airings : List AiredTables) (accepted : List (List ℕ)) → StandsFor airings accepted checker.old
-        → OnOk result (StandsFor (airings ++ airing_on desk.now checker.old.form ∷ []) accepted checker.new) }
-    ensures form { checker.new.form ≡ checker.old.form }
+    ensures begun { (airings : List AiredTables) (accepted : List (List ℕ))
+        → StandsAt airings accepted checker.old → OnOk result (StandsAt
+        (airings ++ airing_on desk.now (form_of checker.old) ∷ []) accepted checker.new) }
+    ensures form { form_of checker.new ≡ form_of checker.old }
+    ensures kind { (rate : Option ℕ) (nulls : Bool) → IsOf rate nulls checker.old
+        → IsOf rate nulls checker.new }
 {
     let airing = desk.on_air()?;
     let tables = build(alloc, desk.mux(), &airing.guide)?;
@@ -52,18 +55,19 @@ fn check_on_air<F: Source>(
     alloc: Global,
     desk: &Desk,
     packets: &mut PacketReader<F>,
-    checker: &mut Checker,
+    checker: &mut CycleChecker,
     passed: &mut Option<u64>,
 ) -> Result<(), Status>
     requires going { packets.old.stop ≡ None }
     requires at_end { IsAtEnd checker.old }
-    ensures checks { (nulls : Bool) (start : PacketReading F) (past : List AiredTables)
-        → Follows nulls F.left start packets.old past checker.old passed.old
-        → Checks nulls F.left start packets.new (past ++ airing_on desk.now checker.old.form ∷ [])
-        checker.new passed.new result }
+    ensures checks { (rate : Option ℕ) (nulls : Bool) (start : PacketReading F)
+        (past : List AiredTables)
+        → Follows rate nulls F.left start packets.old past checker.old passed.old
+        → Checks rate nulls F.left start packets.new
+        (past ++ airing_on desk.now (form_of checker.old) ∷ []) checker.new passed.new result }
     ensures at_end { OnOk result (IsAtEnd checker.new) }
     ensures going { OnOk result (packets.new.stop ≡ None) }
-    ensures form { checker.new.form ≡ checker.old.form }
+    ensures form { form_of checker.new ≡ form_of checker.old }
     ensures known { IfErr result IsOfCheck }
     ensures cause { HasReadCause (F.faults packets.old.source) (F.faults packets.new.source) result }
     ensures later { F.faults packets.old.source ≤ F.faults packets.new.source }
@@ -82,15 +86,17 @@ pub(crate) fn audit_rest<S: Source, F: Source>(
     lines: &mut LineReader<S>,
     desk: &mut Desk,
     packets: &mut PacketReader<F>,
-    checker: &mut Checker,
+    checker: &mut CycleChecker,
     passed: &mut Option<u64>,
 ) -> Result<(), Status>
     requires going { lines.old.stop ≡ None }
     requires unread { packets.old.stop ≡ None }
     requires first { packets.old.number ≡ 0 }
-    requires stands { StandsFor [] [] checker.old }
+    requires stands { StandsAt [] [] checker.old }
+    requires kind { (nulls : Bool) → passed.old ≡ passed_over nulls []
+        → IsOf desk.old.mux.rate nulls checker.old }
     requires at_end { IsAtEnd checker.old }
-    requires form { checker.old.form ≡ mux_form desk.old.mux }
+    requires form { form_of checker.old ≡ mux_form desk.old.mux }
     requires none { desk.old.entries ≡ [] }
     ensures did { (nulls : Bool) → passed.old ≡ passed_over nulls []
         → AuditDid nulls S.left F.left lines.old lines.new packets.old desk.old desk.new result }

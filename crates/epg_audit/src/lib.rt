@@ -9,8 +9,11 @@
 //! Where null packets may stand in the recording, they are passed over, and counted (ISO/IEC
 //! 13818-1, 2.4.3.3).
 //!
-//! Tested in `headend_rows`: the airs of rows and examples, whole, short and changed; files that
-//! cannot be opened or read.
+//! Tested by whole runs: the airs of rows and examples, whole, short and changed; files that cannot
+//! be opened or read.
+//!
+//! At a bit rate the recording is held against the air of the player, packet by packet. Where null
+//! packets may stand, those of the air need not.
 //!
 //! Not promised: how often sections repeat, what is left after Memory, and that it comes only where
 //! memory runs out.

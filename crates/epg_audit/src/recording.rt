@@ -1,15 +1,16 @@
 // The packets of a recording, held against the cycle that is on air.
-ghost use Rattle.std.specs.Prelude.{◌≡◌, ◌≤◌, ◌↔◌, ◌++◌, ◌∷◌, [], None, IfErr, IfNone, IfSome, IsNone, OnOk, Bool, false, List, ℕ, length};
+ghost use Rattle.std.specs.Prelude.{◌≡◌, ◌≤◌, ◌↔◌, ◌++◌, ◌∷◌, [], None, IfErr, IfNone, IfSome, IsNone, OnOk, Bool, false, List, ℕ, Option, length};
 ghost use Rattle.packet_reader.specs.Reading.{PacketReading};
 ghost use Rattle.packet_reader.specs.Recordings.{packet_limit};
 ghost use Rattle.version_book.specs.Airings.{AiredTables};
-ghost use Rattle.air_audit.specs.Audits.{BeginAnAir};
-ghost use Rattle.air_audit.specs.Checking.{Checking, IsAtEnd, StandsFor, rule_at};
+ghost use Rattle.timed_audit.specs.Airs.{seen};
+ghost use Rattle.cycle_audit.specs.Airs.{BeginAirAt};
+ghost use Rattle.cycle_audit.specs.Checking.{Auditing, IsAtEnd, IsOf, StandsAt, form_of, rule_at};
 ghost use Rattle.epg_audit.specs.Checks.{Checks, Ends, Follows, HasReadCause, IsOfCheck, recording_status};
-ghost use Rattle.epg_audit.specs.Recorded.{is_passed, passed_over, seen};
+ghost use Rattle.epg_audit.specs.Recorded.{is_passed, passed_over};
 
-use air_audit::{Checker, is_null};
 use air_model::Rule;
+use cycle_audit::{CycleChecker, is_null};
 use epg_report::{Origin, Status};
 use packet_reader::{PacketReader, PacketStop};
 use si_causes::Source;
@@ -49,45 +50,52 @@ fn pass_over(packet: &[u8; 188], passed: &mut Option<u64>) -> bool
 }
 
 // Checks the next packet. Where null packets may stand, one of them is passed over and counted.
-fn check_packet(checker: &mut Checker, packet: &[u8; 188], passed: &mut Option<u64>) -> Option<Rule>
+fn check_packet(
+    checker: &mut CycleChecker,
+    packet: &[u8; 188],
+    passed: &mut Option<u64>,
+) -> Option<Rule>
     ensures accepted { (nulls : Bool) (airings : List AiredTables) (packets : List (List ℕ))
         → passed.old ≡ passed_over nulls packets
-        → StandsFor airings (seen nulls packets) checker.old
-        → IfNone result (StandsFor airings (seen nulls (packets ++ packet.now ∷ [])) checker.new) }
-    ensures exactly { (nulls : Bool) (airings : List AiredTables) (packets : List (List ℕ))
-        → passed.old ≡ passed_over nulls packets
-        → StandsFor airings (seen nulls packets) checker.old
-        → IsNone result ↔ BeginAnAir airings (seen nulls (packets ++ packet.now ∷ [])) }
+        → StandsAt airings (seen nulls packets) checker.old
+        → IfNone result (StandsAt airings (seen nulls (packets ++ packet.now ∷ [])) checker.new) }
+    ensures exactly { (rate : Option ℕ) (nulls : Bool) (airings : List AiredTables)
+        (packets : List (List ℕ)) → passed.old ≡ passed_over nulls packets
+        → IsOf rate nulls checker.old → StandsAt airings (seen nulls packets) checker.old
+        → IsNone result
+        ↔ BeginAirAt rate nulls airings (seen nulls (packets ++ packet.now ∷ [])) }
     ensures rule { (nulls : Bool) (airings : List AiredTables) (packets : List (List ℕ))
         → passed.old ≡ passed_over nulls packets
-        → StandsFor airings (seen nulls packets) checker.old
+        → StandsAt airings (seen nulls packets) checker.old
         → IfSome result (λ rule. rule ≡ rule_at (seen nulls packets) checker.old packet.now) }
     ensures counted { (nulls : Bool) (packets : List (List ℕ)) → length packets ≤ packet_limit
         → passed.old ≡ passed_over nulls packets
         → passed.new ≡ passed_over nulls (packets ++ packet.now ∷ []) }
-    ensures form { checker.new.form ≡ checker.old.form }
+    ensures form { form_of checker.new ≡ form_of checker.old }
+    ensures kind { (rate : Option ℕ) (nulls : Bool) → IsOf rate nulls checker.old
+        → IsOf rate nulls checker.new }
 {
-    if passed.is_none() {
-        return checker.check(packet);
+    if pass_over(packet, passed) {
+        return None;
     }
-    pass_over(packet, passed);
-    checker.check_past_nulls(packet)
+    checker.check(packet)
 }
 
 /// Reads and checks packets up to the end of the cycle that the checker is in. The first packet that is no part of an air is refused, and
 /// so is a recording that ends before. Where null packets may stand, those that are passed over are counted.
 pub(crate) fn check_cycle<F: Source>(
     packets: &mut PacketReader<F>,
-    checker: &mut Checker,
+    checker: &mut CycleChecker,
     passed: &mut Option<u64>,
 ) -> Result<(), Status>
     requires going { packets.old.stop ≡ None }
-    ensures checks { (nulls : Bool) (start : PacketReading F) (airings : List AiredTables)
-        → Follows nulls F.left start packets.old airings checker.old passed.old
-        → Checks nulls F.left start packets.new airings checker.new passed.new result }
+    ensures checks { (rate : Option ℕ) (nulls : Bool) (start : PacketReading F)
+        (airings : List AiredTables)
+        → Follows rate nulls F.left start packets.old airings checker.old passed.old
+        → Checks rate nulls F.left start packets.new airings checker.new passed.new result }
     ensures at_end { OnOk result (IsAtEnd checker.new) }
     ensures going { OnOk result (packets.new.stop ≡ None) }
-    ensures form { checker.new.form ≡ checker.old.form }
+    ensures form { form_of checker.new ≡ form_of checker.old }
     ensures known { IfErr result IsOfCheck }
     ensures cause { HasReadCause (F.faults packets.old.source) (F.faults packets.new.source) result }
     ensures later { F.faults packets.old.source ≤ F.faults packets.new.source }
@@ -113,9 +121,10 @@ pub(crate) fn check_end<F: Source>(
     passed: &mut Option<u64>,
 ) -> Result<(), Status>
     requires going { packets.old.stop ≡ None }
-    ensures ends { (nulls : Bool) (start : PacketReading F) (airings : List AiredTables)
-        (c : Checking) → Follows nulls F.left start packets.old airings c passed.old
-        → Ends nulls F.left start packets.new airings c passed.new result }
+    ensures ends { (rate : Option ℕ) (nulls : Bool) (start : PacketReading F)
+        (airings : List AiredTables) (c : Auditing)
+        → Follows rate nulls F.left start packets.old airings c passed.old
+        → Ends rate nulls F.left start packets.new airings c passed.new result }
     ensures known { IfErr result IsOfCheck }
     ensures cause { HasReadCause (F.faults packets.old.source) (F.faults packets.new.source) result }
     ensures later { F.faults packets.old.source ≤ F.faults packets.new.source }

@@ -4,7 +4,7 @@ ghost use Rattle.std.specs.Io.KnownBytes.{IsAtEnd};
 ghost use Rattle.si_causes.specs.Reading.{fresh};
 ghost use Rattle.packet_reader.specs.Reading.{fresh as unread};
 ghost use Rattle.mux_model.specs.Sound.{IsSound};
-ghost use Rattle.air_audit.specs.Checking.{IsAtEnd as IsAtCycleEnd, StandsFor};
+ghost use Rattle.cycle_audit.specs.Checking.{IsAtEnd as IsAtCycleEnd, IsOf, StandsAt, form_of};
 ghost use Rattle.journal_air.specs.Air.{mux_form};
 ghost use Rattle.epg_report.specs.Texts.{CanBeSaid};
 ghost use Rattle.epg_report.specs.Told.{asked};
@@ -16,7 +16,7 @@ ghost use Rattle.epg_audit.specs.Leaves.{AuditRan};
 
 use crate::cycles::{AirCount, audit_rest, swap_count};
 use crate::ending::finish;
-use air_audit::Checker;
+use cycle_audit::CycleChecker;
 use desk_core::Desk;
 use epg_play::{mux_stop_of, status_of};
 use epg_report::{Status, out_of_memory};
@@ -26,15 +26,17 @@ use packet_reader::PacketReader;
 use si_causes::{LineReader, Opener, Sink, Source};
 use std::alloc::{AllocError, Global};
 
-// An auditor of the cycles of a multiplex, of its quota and with its offsets of local time.
-fn open_checker(alloc: Global, mux: &Mux) -> Result<Checker, AllocError>
+// An auditor of the cycles of a multiplex, at its bit rate where it has one, of its quota and with
+// its offsets of local time.
+fn open_checker(alloc: Global, mux: &Mux, nulls: bool) -> Result<CycleChecker, AllocError>
     requires { IsSound mux.now }
-    ensures stands { IfOk result (StandsFor [] []) }
+    ensures stands { IfOk result (StandsAt [] []) }
     ensures at_end { IfOk result IsAtCycleEnd }
-    ensures form { IfOk result (λ checker. checker.form ≡ mux_form mux.now) }
+    ensures form { IfOk result (λ checker. form_of checker ≡ mux_form mux.now) }
+    ensures kind { IfOk result (IsOf mux.now.rate nulls) }
 {
     let offsets = mux.offsets.copy()?;
-    Ok(Checker::open(alloc, mux.quota, offsets))
+    Ok(CycleChecker::open(alloc, mux.rate, mux.quota, offsets, nulls))
 }
 
 // Audits the recording by the script after the description of this multiplex.
@@ -57,7 +59,7 @@ fn audit_recording<S: Source, F: Source>(
         (F.faults packets.old.source) (F.faults packets.new.source) result }
     ensures same { S.same lines.old.source lines.new.source }
 {
-    let Ok(mut checker) = open_checker(alloc, &mux) else {
+    let Ok(mut checker) = open_checker(alloc, &mux, nulls) else {
         return Err(Status::Memory);
     };
     let Ok(mut desk) = Desk::open(alloc, mux) else {
@@ -112,7 +114,8 @@ fn audit<O: Opener, S: Source>(
 /// recording, it is an air of the journal exactly where the run ends with Done, faults of the outside and want of memory aside. The
 /// report is one line: `air`, how many packets it has and how many swaps, or what is at fault (ISO/IEC 13818-1, 2.4.3 and 2.4.4;
 /// EN 300 468, 5.1). With `nulls` null packets may stand anywhere in the recording (ISO/IEC 13818-1, 2.4.3.3): they are passed over, and
-/// the line says last how many there were.
+/// the line says last how many there were. At a bit rate the recording is the air of the player, and
+/// with `nulls` the null packets of that air are not asked for.
 pub fn run_audit<O: Opener, S: Source, R: Sink>(
     alloc: Global,
     path: &str,

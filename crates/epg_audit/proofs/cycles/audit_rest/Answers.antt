@@ -26,8 +26,12 @@ items-init g c = record {
   legal = subst (λ (l : List Entry). Legal c.args.desk.now.mux l) (sym c.requires.none) tt;
   window = tt;
   went = went_none 0 g.S.Source.left c.args.lines.now c.args.desk.now;
-  follows = λ nulls none. subst (λ (l : List AiredTables). Follows nulls g.F.Source.left c.args.packets.now c.args.packets.now l c.args.checker.now c.args.passed.now) (sym (ap (airings c.args.desk.now.mux) c.requires.none))
-      (follows_none nulls g.F.Source.left c.args.packets.now c.args.packets.now c.args.packets.now c.args.checker.now c.args.passed.now c.requires.stands c.requires.first none);
+  follows = λ nulls none. subst (λ (l : List AiredTables). Follows c.args.desk.now.mux.rate nulls
+      g.F.Source.left c.args.packets.now c.args.packets.now l c.args.checker.now c.args.passed.now)
+      (sym (ap (airings c.args.desk.now.mux) c.requires.none))
+      (follows_none c.args.desk.now.mux.rate nulls g.F.Source.left c.args.packets.now
+      c.args.packets.now c.args.packets.now c.args.checker.now c.args.passed.now
+      (c.requires.kind nulls none) c.requires.stands c.requires.first none);
 }
 
 pub returns-in-Err-check_on_air-clause-did : goal.returns-in-Err-check_on_air-clause-did
@@ -36,7 +40,12 @@ returns-in-Err-check_on_air-clause-did g c = λ nulls none.
     let e = rw c.in-Ok-Swap.field-0-is at c.in-Ok-Swap.ensures in
     cycle_did nulls g.S.Source.left g.F.Source.left c.args.lines.now c.do_item.new.lines c.args.packets.now c.items.packets c.check_on_air.new.packets c.args.desk.now c.do_item.new.desk
     _ c.check_on_air.new.checker c.check_on_air.new.passed c.do_item.new.made c.in-Err-check_on_air.status (swap_adds c.items.desk c.do_item.new.desk c.items.checker i.legal e.did i.form)
-    (e.goes_on c.args.lines.now c.args.desk.now i.went) (c.in-Err-check_on_air.ensures.checks nulls c.args.packets.now (desk_airings c.items.desk) (i.follows nulls none))
+    (e.goes_on c.args.lines.now c.args.desk.now i.went)
+    (c.in-Err-check_on_air.ensures.checks c.do_item.new.desk.mux.rate nulls c.args.packets.now
+    (desk_airings c.items.desk)
+    (subst (λ (m : Mux). Follows m.rate nulls g.F.Source.left c.args.packets.now c.items.packets
+    (desk_airings c.items.desk) c.items.checker c.items.passed)
+    (sym (step_mux true c.items.desk c.do_item.new.desk e.did)) (i.follows nulls none)))
 
 pub items-preserved-in_default : goal.items-preserved-in_default
 items-preserved-in_default g c =
@@ -53,8 +62,15 @@ items-preserved-in_default g c =
       legal = e.legal;
       window = e.window;
       went = e.goes_on c.args.lines.now c.args.desk.now i.went;
-      follows = λ nulls none. subst (λ (l : List AiredTables). Follows nulls g.F.Source.left c.args.packets.now c.check_on_air.new.packets l c.check_on_air.new.checker c.check_on_air.new.passed)
-          (swap_adds c.items.desk c.do_item.new.desk c.items.checker i.legal e.did i.form) (c.in_default.ensures.checks nulls c.args.packets.now (desk_airings c.items.desk) (i.follows nulls none));
+      follows = λ nulls none. subst (λ (l : List AiredTables). Follows c.do_item.new.desk.mux.rate
+          nulls g.F.Source.left c.args.packets.now c.check_on_air.new.packets l
+          c.check_on_air.new.checker c.check_on_air.new.passed)
+          (swap_adds c.items.desk c.do_item.new.desk c.items.checker i.legal e.did i.form)
+          (c.in_default.ensures.checks c.do_item.new.desk.mux.rate nulls c.args.packets.now
+          (desk_airings c.items.desk)
+          (subst (λ (m : Mux). Follows m.rate nulls g.F.Source.left c.args.packets.now
+          c.items.packets (desk_airings c.items.desk) c.items.checker c.items.passed)
+          (sym (step_mux true c.items.desk c.do_item.new.desk e.did)) (i.follows nulls none)));
     }
 
 pub items-preserved : goal.items-preserved
@@ -72,15 +88,23 @@ items-preserved g c =
       legal = e.legal;
       window = e.window;
       went = e.goes_on c.args.lines.now c.args.desk.now i.went;
-      follows = λ nulls none. subst (λ (l : List AiredTables). Follows nulls g.F.Source.left c.args.packets.now c.items.packets l c.items.checker c.items.passed) (sym (other_keeps c.items.desk c.do_item.new.desk i.legal e.did)) (i.follows nulls none);
+      follows = λ nulls none. subst (λ (l : List AiredTables). Follows c.do_item.new.desk.mux.rate
+          nulls g.F.Source.left c.args.packets.now c.items.packets l c.items.checker c.items.passed)
+          (sym (other_keeps c.items.desk c.do_item.new.desk i.legal e.did))
+          (subst (λ (m : Mux). Follows m.rate nulls g.F.Source.left c.args.packets.now
+          c.items.packets (desk_airings c.items.desk) c.items.checker c.items.passed)
+          (sym (other_mux c.items.desk c.do_item.new.desk e.did)) (i.follows nulls none));
     }
 
 pub returns-in-Ok-End-clause-did : goal.returns-in-Ok-End-clause-did
 returns-in-Ok-End-clause-did g c = λ nulls none.
     let i = c.items.invariant in
     let e = rw c.in-Ok-End.field-0-is at c.in-Ok-End.ensures in
-    let f = subst (λ (d : DeskState). Follows nulls g.F.Source.left c.args.packets.now c.items.packets (desk_airings d) c.items.checker c.items.passed) (sym e.did) (i.follows nulls none) in
-    let ends = c.check_end.ensures.ends nulls c.args.packets.now (desk_airings c.do_item.new.desk) c.items.checker f in
+    let f = subst (λ (d : DeskState). Follows d.mux.rate nulls g.F.Source.left c.args.packets.now
+    c.items.packets (desk_airings d) c.items.checker c.items.passed) (sym e.did)
+    (i.follows nulls none) in
+    let ends = c.check_end.ensures.ends c.do_item.new.desk.mux.rate nulls c.args.packets.now
+    (desk_airings c.do_item.new.desk) c.items.checker f in
     end_did nulls g.S.Source.left g.F.Source.left c.args.lines.now c.do_item.new.lines c.args.packets.now ends.last c.check_end.new.packets c.args.desk.now c.do_item.new.desk c.items.checker c.check_end.new.passed c.check_end.result
     ends.follows i.at_end (e.goes_on c.args.lines.now c.args.desk.now i.went) ends.gives
 
@@ -88,8 +112,11 @@ pub returns-in-Ok-End-clause-counted : goal.returns-in-Ok-End-clause-counted
 returns-in-Ok-End-clause-counted g c = λ nulls bytes none told.
     let i = c.items.invariant in
     let e = rw c.in-Ok-End.field-0-is at c.in-Ok-End.ensures in
-    let f = subst (λ (d : DeskState). Follows nulls g.F.Source.left c.args.packets.now c.items.packets (desk_airings d) c.items.checker c.items.passed) (sym e.did) (i.follows nulls none) in
-    let ends = c.check_end.ensures.ends nulls c.args.packets.now (desk_airings c.do_item.new.desk) c.items.checker f in
+    let f = subst (λ (d : DeskState). Follows d.mux.rate nulls g.F.Source.left c.args.packets.now
+    c.items.packets (desk_airings d) c.items.checker c.items.passed) (sym e.did)
+    (i.follows nulls none) in
+    let ends = c.check_end.ensures.ends c.do_item.new.desk.mux.rate nulls c.args.packets.now
+    (desk_airings c.do_item.new.desk) c.items.checker f in
     end_counts nulls g.S.Source.left g.F.Source.left c.args.lines.now c.do_item.new.lines c.args.packets.now ends.last c.check_end.new.packets c.args.desk.now c.do_item.new.desk c.items.checker c.check_end.new.passed bytes c.check_end.result
     ends.follows told ends.gives ends.number
 

@@ -2,10 +2,10 @@ use Rattle.std.proofs.Common.{◌≡◌, ◌++◌, ◌∷◌, [], OnOk, sym, ◌
 use Rattle.desk_core.specs.declared.airing.Airing.{Airing}
 use Rattle.version_book.specs.Airings.{AiredTables}
 use Rattle.version_book.specs.Book.{aired}
-use Rattle.air_audit.specs.Checking.{StandsFor}
+use Rattle.cycle_audit.specs.Checking.{StandsAt, form_of}
 use Rattle.publication.specs.Tables.{HasServicesOf}
-use Rattle.headend_jobs.specs.OnAir.{airing_on}
-use Rattle.headend_jobs.proofs.AirFacts.{airing_is, airing_sent, on_air_services}
+use Rattle.air_sending.specs.OnAir.{airing_on}
+use Rattle.air_sending.proofs.AirFacts.{airing_is, airing_sent, on_air_services}
 use Rattle.epg_audit.proofs.cycles.begin_cycle.Goals as goal
 
 pub build-requires-clause-services : goal.build-requires-clause-services
@@ -14,8 +14,10 @@ build-requires-clause-services c =
 
 pub returns-clause-begun : goal.returns-clause-begun
 returns-clause-begun c = λ airings accepted stands.
-    let form = c.args.checker.now.form in
+    let form = form_of c.args.checker.now in
     let on : Airing = record { number = c.airing.inside.number; moment = c.airing.inside.moment; guide = c.airing.inside.guide.guide } in
     let same : aired c.in_ok-tables.tables.list on.moment.0 form ≡ airing_on c.args.desk.now form = airing_sent c.mux.result.now form on c.in_ok-airing.airing c.in_ok-tables.tables.list c.airing.view_is c.in_ok-tables.ensures.tables
     ∙ airing_is c.args.desk.now c.in_ok-airing.airing c.mux.result.now form c.in_ok-airing.ensures.airing c.mux.ensures.value in
-    subst (λ (a : AiredTables). OnOk c.swap.result (StandsFor (airings ++ a ∷ []) accepted c.swap.new.self)) same (c.swap.ensures.swapped airings accepted stands)
+    subst (λ (a : AiredTables). OnOk c.swap.result
+    (StandsAt (airings ++ a ∷ []) accepted c.swap.new.self)) same
+    (c.swap.ensures.swapped airings accepted stands)

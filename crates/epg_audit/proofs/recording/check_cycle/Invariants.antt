@@ -1,18 +1,21 @@
-use Rattle.std.proofs.Common.{◌≡◌, ◌≤◌, Bool, List}
-use Rattle.std.specs.Prelude.{None}
+use Rattle.std.proofs.Common.{◌≡◌, ◌≤◌, ℕ, Bool, List}
+use Rattle.std.specs.Prelude.{None, Option}
 use Rattle.packet_reader.specs.Reading.{PacketReading, packets_to_come}
 use Rattle.version_book.specs.Airings.{AiredTables}
 use Rattle.epg_audit.specs.Checks.{Follows}
+use Rattle.cycle_audit.specs.Checking.{form_of}
 use Rattle.epg_audit.proofs.recording.check_cycle.Given as goal
 
 abbrev pub invariant-loop-packets : goal.invariant-loop-packets
 invariant-loop-packets g l =
     record {
       going : l.packets.stop ≡ None;
-      form : l.checker.form ≡ l.fn.checker.form;
+      form : form_of l.checker ≡ form_of l.fn.checker;
       later : g.F.Source.faults l.fn.packets.source ≤ g.F.Source.faults l.packets.source;
-      follows : (nulls : Bool) (start : PacketReading g.row.F.Denot) (airings : List AiredTables) → Follows nulls g.F.Source.left start l.fn.packets airings l.fn.checker l.fn.passed
-          → Follows nulls g.F.Source.left start l.packets airings l.checker l.passed;
+      follows : (rate : Option ℕ) (nulls : Bool) (start : PacketReading g.row.F.Denot)
+          (airings : List AiredTables) → Follows rate nulls g.F.Source.left start l.fn.packets
+          airings l.fn.checker l.fn.passed
+          → Follows rate nulls g.F.Source.left start l.packets airings l.checker l.passed;
     }
 
 abbrev pub decreases-loop-packets : goal.decreases-loop-packets

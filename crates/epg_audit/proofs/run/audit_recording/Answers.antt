@@ -1,4 +1,4 @@
-use Rattle.std.proofs.Common.{◌≡◌, List, length, sym, ap, ◌∙◌, subst}
+use Rattle.std.proofs.Common.{◌≡◌, Bool, List, length, sym, ap, ◌∙◌, subst}
 use Rattle.std.specs.Prelude.{Ok, Err, IsErrAnd, Result}
 use Rattle.std.proofs.lemmas.List.{length-map}
 use Rattle.journal_model.specs.declared.step.Entry.{Entry}
@@ -8,8 +8,16 @@ use Rattle.journal_air.specs.Air.{airing_at}
 use Rattle.epg_report.specs.declared.status.Status.{Status}
 use Rattle.epg_audit.specs.declared.cycles.AirCount.{AirCount}
 use Rattle.epg_audit.specs.Audits.{AuditDid, RecordingAudited}
-use Rattle.epg_audit.proofs.Nulls.{none_yet}
+use Rattle.cycle_audit.specs.Checking.{IsOf}
+use Rattle.epg_audit.proofs.Nulls.{none_yet, same_nulls}
 use Rattle.epg_audit.proofs.run.audit_recording.Goals as goal
+
+pub audit_rest-requires-clause-kind : goal.audit_rest-requires-clause-kind
+audit_rest-requires-clause-kind g c = λ nulls e.
+    let first = none_yet c.args.nulls c.then_some-passed.result c.then_some-passed.ensures in
+    subst (λ (d : DeskState). IsOf d.mux.rate nulls c.in-Ok.checker) (sym c.in-Ok-open.ensures)
+    (subst (λ (n : Bool). IsOf c.args.mux.rate n c.in-Ok.checker)
+    (same_nulls c.args.nulls nulls (sym first ∙ e)) c.in-Ok.ensures.kind)
 
 pub returns-in_default-clause-audited : goal.returns-in_default-clause-audited
 returns-in_default-clause-audited g c = (fresh c.args.mux, tt)

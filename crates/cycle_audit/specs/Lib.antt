@@ -1,0 +1,4 @@
+pub mod Airs
+pub mod Checking
+pub mod Checker
+pub mod Breaking

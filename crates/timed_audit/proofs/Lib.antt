@@ -1,0 +1,2 @@
+pub mod Airs
+pub mod Stands

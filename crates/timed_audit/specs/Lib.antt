@@ -1,0 +1,4 @@
+pub mod Airs
+pub mod Rules
+pub mod Checking
+pub mod Laws
