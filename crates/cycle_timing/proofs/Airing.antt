@@ -21,7 +21,7 @@ use Rattle.time_tables.proofs.Offsets.{length-offsets_body}
 use Rattle.cycle_plan.specs.Sections.{is_fast, planned}
 use Rattle.air_timing.specs.Rate.{IsRightSpan}
 use Rattle.air_paced.specs.Leads.{measure}
-use Rattle.air_paced.specs.Again.{IsRight}
+use Rattle.air_paced.specs.Again.{IsRight, leads_in}
 use Rattle.cycle_laying.specs.Planning.{weights_of, time_weights, weights_under}
 use Rattle.cycle_laying.proofs.Weights.{weights_given}
 use Rattle.version_book.specs.Airings.{AiredTables, version_at}
@@ -194,6 +194,9 @@ module _ (rate : ℕ) (past : List AiredTables) (a : AiredTables) (ts : List Sub
   right_given b h =
       subst (λ (ws : List (Tier3 × ℕ)). IsTrue b ↔ RightSpan (paced_in (sections_once past a)) ws) weights_same
       (subst (λ (ss : List Paced). IsTrue b ↔ RightSpan ss (weights_listed known)) sections_given h)
+
+  pub leads_given : measure (paced_under known) (fast_groups (paced_under known) (planned (weights_listed known) 0)) ≡ leads_in rate past a
+  leads_given = ap₂ (λ (ss : List Paced) (ws : List (Tier3 × ℕ)). measure ss (fast_groups ss (planned ws a.form.quota))) sections_given weights_same
 
 -- ---- they have bytes, and there is a TDT
 

@@ -9,7 +9,6 @@ use Rattle.std.proofs.lemmas.List.Elements.{recursion_from_All}
 use Rattle.cycle_plan.specs.Packing.{Packing, begun_at}
 use Rattle.air_timing.specs.declared.pace.Paced.{Paced}
 use Rattle.air_timing.specs.declared.pace.Spacing.{Spacing}
-use Rattle.air_timing.specs.declared.span.Leads.{Leads}
 use Rattle.air_timing.specs.Pacing.{place_at}
 use Rattle.air_timing.specs.PaceView.{Seen, place_of}
 use Rattle.air_timing.specs.PlanView.{planned, IsPlan, CanCount}

@@ -7,7 +7,7 @@ ghost use Rattle.cycle_plan.specs.Sections.{is_fast};
 ghost use Rattle.air_timing.specs.PlanView.{left_of, IsPlan, CanCount};
 ghost use Rattle.air_timing.specs.Rate.{IsRightSpan, gap_at, span_at};
 ghost use Rattle.air_model.specs.Air.{CanBeTold};
-ghost use Rattle.air_paced.specs.Again.{IsRight};
+ghost use Rattle.air_paced.specs.Again.{IsRight, leads_in};
 ghost use Rattle.air_paced.specs.Leads.{leads_of, measure, most_sections};
 ghost use Rattle.air_paced.specs.Planning.{fast_groups, timings_of};
 ghost use Rattle.cycle_timing.specs.Listing.{IsSized, paced_under};
@@ -18,24 +18,27 @@ use crate::groups::groups_of;
 use crate::leads::{leads_within, measured, most_sections};
 use crate::listed::{Listed, count_fast, count_near, list_sections, sizes_of};
 use crate::numbers::paced_of;
-use air_timing::{FramePlan, Pace, Paced, Spacing, Span, gap_at, span_at};
+use air_timing::{FramePlan, Leads, Pace, Paced, Spacing, Span, gap_at, span_at};
 use guide_model::Offset;
 use section_codec::SubTable;
 use si_base::Items;
 use std::alloc::{AllocError, Global};
 
-/// The plan of a cycle at a bit rate, and whether the span of its frames is right: whether all is
-/// sent again in time.
+/// The plan of a cycle at a bit rate, whether the span of its frames is right, so that all is sent
+/// again in time, and what the leads are like that decide it.
 #[derive(Drop)]
 pub struct TimedPlan {
     pub frames: FramePlan,
     pub is_right: bool,
+    pub leads: Leads,
 }
 
-// The leads of a round, and the span of the frames in front of which they stand.
+// The leads of a round, what they are like, and the span of the frames in front of which they
+// stand.
 #[derive(Drop)]
 struct Round {
     leads: Vec<Items<usize>>,
+    measured: Leads,
     span: Span,
 }
 
@@ -57,6 +60,9 @@ pub fn plan_timed(
     ensures right { IfOk result (λ plan. (past : List AiredTables) (a : AiredTables)
         → a.tables ≡ tables.now → a.form.offsets ≡ offsets.now
         → IsTrue plan.is_right ↔ IsRight rate past a) }
+    ensures leads { IfOk result (λ plan. (past : List AiredTables) (a : AiredTables)
+        → a.tables ≡ tables.now → a.form.offsets ≡ offsets.now
+        → plan.leads ≡ leads_in rate past a) }
 {
     let listed = list_sections(alloc, tables, offsets)?;
     plan_listed(alloc, listed.as_slice(), rate)
@@ -71,6 +77,8 @@ fn plan_listed(alloc: Global, listed: &[Listed], rate: u32) -> Result<TimedPlan,
         ↔ IsRightSpan rate (measure (paced_under listed.now)
         (fast_groups (paced_under listed.now) (tiers_under listed.now)))
         (plan_under rate listed.now).span) }
+    ensures leads { IfOk result (λ plan. plan.leads ≡ measure (paced_under listed.now)
+        (fast_groups (paced_under listed.now) (tiers_under listed.now))) }
 {
     let sections = paced_of(alloc, listed)?;
     let sizes = sizes_of(alloc, listed)?;
@@ -99,13 +107,19 @@ fn plan_frames(
     ensures right { IfOk result (λ plan. IsTrue plan.is_right
         ↔ IsRightSpan rate (measure sections.items groups.now)
         (span_at rate (measure sections.items groups.now))) }
+    ensures leads { IfOk result (λ plan. plan.leads ≡ measure sections.items groups.now) }
 {
     let round = plan_round(alloc, rate, sections.as_slice(), groups, body.len())?;
-    let Round { leads, span } = round;
+    let Round {
+        leads,
+        measured,
+        span,
+    } = round;
     let frames = open_frames(alloc, rate, sections, leads, body, span.packets)?;
     Ok(TimedPlan {
         frames,
         is_right: span.is_right,
+        leads: measured,
     })
 }
 
@@ -121,6 +135,7 @@ fn plan_round(
     requires some { 0 < length groups.now }
     requires each { All (λ group. 0 < length group) groups.now }
     ensures leads { IfOk result (λ round. round.leads.items ≡ leads_of groups.now) }
+    ensures measured { IfOk result (λ round. round.measured ≡ measure sections.now groups.now) }
     ensures span { IfOk result (λ round. round.span.packets
         ≡ span_at rate (measure sections.now groups.now)) }
     ensures right { IfOk result (λ round. IsTrue round.span.is_right
@@ -137,7 +152,11 @@ fn plan_round(
         return Err(AllocError);
     }
     let span = span_at(rate, measured);
-    Ok(Round { leads, span })
+    Ok(Round {
+        leads,
+        measured,
+        span,
+    })
 }
 
 // Opens the plan after the null packets of a gap.

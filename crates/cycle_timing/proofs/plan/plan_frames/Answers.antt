@@ -1,7 +1,6 @@
 use Rattle.std.proofs.Common.{◌≡◌, ℕ, ◌-◌, ◌<◌, List, length, ap, ◌∙◌, subst, arith}
 use Rattle.std.specs.Prelude.{IsTrue, ◌↔◌, ◌^◌}
 use Rattle.air_timing.specs.declared.pace.Paced.{Paced}
-use Rattle.air_timing.specs.declared.span.Leads.{Leads}
 use Rattle.air_timing.specs.Rate.{IsRightSpan, span_at}
 use Rattle.air_paced.specs.Leads.{measure, most_sections}
 use Rattle.cycle_timing.specs.Plans.{most_timings, timings_with}
@@ -79,3 +78,6 @@ returns-clause-right c =
     let is_right : List Paced → ℕ → Type 0 = λ ss n. IsTrue b ↔ IsRightSpan rate (measure ss c.args.groups.now) n in
     subst (λ (ss : List Paced). is_right ss (span_at rate (measure ss c.args.groups.now))) c.as_slice.ensures.value
     (subst (is_right c.as_slice.result.now) c.in_ok-round.ensures.span c.in_ok-round.ensures.right)
+
+pub returns-clause-leads : goal.returns-clause-leads
+returns-clause-leads c = c.in_ok-round.ensures.measured ∙ ap (λ (ss : List Paced). measure ss c.args.groups.now) c.as_slice.ensures.value

@@ -108,3 +108,15 @@ returns-clause-right c =
     let is_right : TimedPlan → Leads → Type 0 = λ plan l. IsTrue plan.is_right ↔ IsRightSpan rate l (span_at rate l) in
     if_ok (λ (plan : TimedPlan). is_right plan (measure ss c.as_slice-4.result.now)) (λ (plan : TimedPlan). is_right plan (measure (paced_under ls) (fast_groups (paced_under ls) (tiers_under ls))))
     c.plan_frames.result (λ plan h. subst (is_right plan) measured h) c.plan_frames.ensures.right
+
+pub returns-clause-leads : goal.returns-clause-leads
+returns-clause-leads c =
+    let ls = c.args.listed.now in
+    let ss = c.in_ok-sections.sections.items in
+    let fasts = c.count_fast-fasts.result in
+    let nears = c.count_near-nears.result in
+    let are : AreTiers ls fasts nears c.in_ok-sizes.sizes.items = record { fasts_are = c.count_fast-fasts.ensures; nears_are = c.count_near-nears.ensures; sizes_are = c.in_ok-sizes.ensures } in
+    let gs_are : c.as_slice-4.result.now ≡ groups (table_at ss) (upto 0 fasts) = c.as_slice-4.ensures.value ∙ c.in_ok-groups.ensures ∙ ap (λ (us : List Paced). groups (table_at us) (upto 0 fasts)) c.as_slice.ensures.value in
+    let measured = ap₂ measure c.in_ok-sections.ensures (groups_are ls _ _ _ are ss c.as_slice-4.result.now c.in_ok-sections.ensures gs_are) in
+    if_ok (λ (plan : TimedPlan). plan.leads ≡ measure ss c.as_slice-4.result.now) (λ (plan : TimedPlan). plan.leads ≡ measure (paced_under ls) (fast_groups (paced_under ls) (tiers_under ls)))
+    c.plan_frames.result (λ plan h. h ∙ measured) c.plan_frames.ensures.leads

@@ -7,14 +7,15 @@ use Rattle.version_book.specs.Airings.{AiredTables}
 use Rattle.cycle_plan.specs.Sections.{is_fast}
 use Rattle.air_timing.specs.PlanView.{left_of}
 use Rattle.air_timing.specs.Rate.{IsRightSpan}
-use Rattle.air_paced.specs.Again.{IsRight}
+use Rattle.air_timing.specs.declared.span.Leads.{Leads}
+use Rattle.air_paced.specs.Again.{IsRight, leads_in}
 use Rattle.air_paced.specs.Leads.{measure}
 use Rattle.air_paced.specs.Planning.{fast_groups, timings_of}
 use Rattle.cycle_timing.specs.declared.listed.Listed.{Listed}
 use Rattle.cycle_timing.specs.declared.plan.TimedPlan.{TimedPlan}
 use Rattle.cycle_timing.specs.Listing.{listed_under, paced_under, HasRange, IsSized}
 use Rattle.cycle_timing.specs.Plans.{plan_under, tiers_under, timings_with}
-use Rattle.cycle_timing.proofs.Airing.{timings_given, right_given, all_sized, some_fast}
+use Rattle.cycle_timing.proofs.Airing.{timings_given, right_given, leads_given, all_sized, some_fast}
 use Rattle.cycle_timing.proofs.Opening.{if_ok}
 use Rattle.cycle_timing.proofs.plan.plan_timed.Goals as goal
 
@@ -63,3 +64,18 @@ returns-clause-right c =
     c.plan_listed.result
     (λ plan h past a t o. right_given rate past a ts os t o fit small plan.is_right (subst (is_right plan) are h))
     c.plan_listed.ensures.right
+
+pub returns-clause-leads : goal.returns-clause-leads
+returns-clause-leads c =
+    let ts = c.args.tables.now in
+    let os = c.args.offsets.now in
+    let rate = c.args.rate in
+    let fit = recursion_from_All IsFit ts c.requires.fit.each in
+    let small = recursion_from_All HasRange ts c.in_ok-listed.ensures.ranges in
+    let are : c.as_slice.result.now ≡ listed_under ts os = c.as_slice.ensures.value ∙ c.in_ok-listed.ensures.listed in
+    let leads_are : List Listed → Leads = λ ls. measure (paced_under ls) (fast_groups (paced_under ls) (tiers_under ls)) in
+    if_ok (λ (plan : TimedPlan). plan.leads ≡ leads_are c.as_slice.result.now)
+    (λ (plan : TimedPlan). (past : List AiredTables) (a : AiredTables) → a.tables ≡ ts → a.form.offsets ≡ os → plan.leads ≡ leads_in rate past a)
+    c.plan_listed.result
+    (λ plan h past a t o. h ∙ ap leads_are are ∙ leads_given rate past a ts os t o fit small)
+    c.plan_listed.ensures.leads
