@@ -6,3 +6,4 @@ pub mod Queues
 pub mod Begun
 pub mod Plays
 pub mod TimedAirs
+pub mod Tallies

@@ -7,7 +7,7 @@ use Rattle.air_paced.specs.Cycle.{AreTimed}
 use Rattle.air_paced.proofs.Airs.{timed_airs_are_airs, timed_sections_are_on_air}
 use Rattle.air_paced.proofs.Apart.{timed_airs_are_apart}
 use Rattle.air_paced.proofs.Times.{timed_airs_tell_the_time}
-use Rattle.air_paced.proofs.Repeats.{timed_cycles_repeat}
+use Rattle.air_paced.proofs.Repeats.{timed_cycles_repeat, timed_neighbours_repeat}
 use Rattle.timed_player.specs.Playing.{IsTimedAir, TimedPlayersSendAirs, CyclesBegunAreAirs}
 
 -- cycles at a bit rate, whoever made them
@@ -19,6 +19,8 @@ is_timed_air rate xs some timed can = record {
   time = timed_airs_tell_the_time rate xs some timed can;
   again = λ before x after are right. timed_cycles_repeat rate before x after (subst (AreTimed rate []) are timed)
       (all_at (λ (y : Aired). CanBeTimed y.airing) before x after (subst CanAllBeTimed are can)) right;
+  next = λ before x y after are tables form right. timed_neighbours_repeat rate before x y after (subst (AreTimed rate []) are timed) tables form
+      (all_at (λ (z : Aired). CanBeTimed z.airing) before x (y ∷ after) (subst CanAllBeTimed are can)) right;
 }
 
 pub timed_players_send_airs : TimedPlayersSendAirs

@@ -106,6 +106,13 @@ pub record IsTimedAir (rate : ℕ) (xs : List Aired) : Type 0 where
       → IsRight rate (airings_of before) x.airing
       → AreRepeated rate (airings_of before) x.airing (length (air (before ++ x ∷ [])))
       (timings_after rate before x.airing)
+  -- and into a next cycle with equal sub-tables and the same form
+  pub next : (before : List Aired) (x y : Aired) (after : List Aired)
+      → xs ≡ before ++ x ∷ y ∷ after
+      → y.airing.tables ≡ x.airing.tables → y.airing.form ≡ x.airing.form
+      → IsRight rate (airings_of before) x.airing
+      → AreRepeated rate (airings_of before) x.airing (length (air (before ++ x ∷ y ∷ [])))
+      (timings_after rate before x.airing ++ timings_after rate (before ++ x ∷ []) y.airing)
 
 -- So it is at the end of a cycle, and with all of a cycle that was begun.
 abbrev pub TimedPlayersSendAirs : Type 0

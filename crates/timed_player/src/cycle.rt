@@ -3,7 +3,7 @@ ghost use Rattle.std.specs.Prelude.{◌≡◌, ◌*◌, ◌<◌, ◌==◌, ◌++
 ghost use Rattle.ts_packets.specs.Bytes.{Packet, bytes_of_packet};
 ghost use Rattle.air_model.specs.Air.{CanBeTold};
 ghost use Rattle.air_model.specs.Bursts.{null_packet};
-ghost use Rattle.air_paced.specs.Again.{IsRight};
+ghost use Rattle.air_paced.specs.Again.{IsRight, leads_in};
 ghost use Rattle.section_codec.specs.SubTables.{AreFit};
 ghost use Rattle.version_book.specs.Airings.{AiredTables, CycleForm};
 ghost use Rattle.version_book.specs.Book.{BookStandsFor, aired};
@@ -97,6 +97,9 @@ impl Cycle {
         ensures right { IfOk result (λ begun. (past : List AiredTables) (a : AiredTables)
             → a.tables ≡ tables.now.list → a.form.offsets ≡ offsets.now
             → IsTrue begun.is_right ↔ IsRight rate past a) }
+        ensures leads { IfOk result (λ begun. (past : List AiredTables) (a : AiredTables)
+            → a.tables ≡ tables.now.list → a.form.offsets ≡ offsets.now
+            → begun.leads ≡ leads_in rate past a) }
         ensures ended { OnErr result (self.new ≡ self.old) }
         ensures kept { OnErr result (book.new ≡ book.old) }
     {

@@ -12,7 +12,8 @@
 //! Where `swap` says that the span is right, PAT, PMT, NIT, SDT, TDT and TOT are sent again within
 //! half a second, and present and following within two seconds (`timed_players_send_airs`). At the
 //! end of a cycle `kept` gives the versions, contents, counters and the clock that the player
-//! keeps. `TimedPlayer::resume` makes a player that goes on from them.
+//! keeps. `TimedPlayer::resume` makes a player that goes on from them. A `Tally` counts the cycles
+//! whose span is not right, and says the least rate that would have done.
 //!
 //! Not promised: that the sink takes or sends the bytes at the rate, how many packets go to it in
 //! one write, and how often schedules are sent.
@@ -23,7 +24,9 @@ mod cycle;
 mod laws;
 mod player;
 mod runs;
+mod tally;
 
 pub use clock::Clock;
 pub use laws::timed_players_send_airs;
 pub use player::{PlayerState, TimedPlayer};
+pub use tally::{Tally, Timeliness};

@@ -6,14 +6,16 @@ ghost use Rattle.ts_packets.specs.Bytes.{Packet, bytes_of_packet};
 ghost use Rattle.ts_packets.specs.PidCounters.{IsPidCounter, ArePidCountersOf, counter_in};
 ghost use Rattle.section_codec.specs.SubTables.{AreFit};
 ghost use Rattle.section_codec.specs.declared.table.Key.{Key};
+ghost use Rattle.version_book.specs.Airings.{AiredTables};
 ghost use Rattle.version_book.specs.Book.{AreKeyVersionsOf, aired, given_in, given_entries};
 ghost use Rattle.air_model.specs.Air.{Aired, CanBeTold, airings_of};
-ghost use Rattle.air_paced.specs.Again.{IsRight};
+ghost use Rattle.air_paced.specs.Again.{IsRight, leads_in};
 ghost use Rattle.timed_player.specs.Clock.{reads};
 ghost use Rattle.timed_player.specs.Playing.{AtEnd, AreKeptOf, Within, Begins, GaveUp};
 
 use crate::clock::Clock;
 use crate::cycle::Cycle;
+use crate::tally::Timeliness;
 use guide_model::Offsets;
 use section_codec::Tables;
 use section_packing::{BATCH, PacketQueue, send_all};
@@ -149,15 +151,18 @@ impl TimedPlayer {
     /// a section in the long form, and none with the table_id 0xFF, which is fill. All memory is
     /// taken first, with 24 bytes for each section that the cycle sends: where it is wanting, or
     /// where a cycle has too many packets to count, the player stays as it was.
-    pub fn swap(&mut self, tables: Tables, moment: Moment) -> Result<bool, AllocError>
+    pub fn swap(&mut self, tables: Tables, moment: Moment) -> Result<Timeliness, AllocError>
         requires at_end { self.old.left ≡ [] }
         requires fit { AreFit tables.list }
         requires moment { moment.0 < 65536 * 86400 }
         ensures begun { (xs : List Aired) (quota : ℕ) → AtEnd xs self.old → OnOk result (Begins xs
             (aired tables.list moment.0 (record { quota = quota; offsets = self.old.offsets }))
             self.new) }
-        ensures right { IfOk result (λ right. (xs : List Aired) (quota : ℕ) → IsTrue right
-            ↔ IsRight self.old.rate (airings_of xs)
+        ensures right { IfOk result (λ cycle. (past : List AiredTables) (quota : ℕ)
+            → IsTrue cycle.is_right ↔ IsRight self.old.rate past
+            (aired tables.list moment.0 (record { quota = quota; offsets = self.old.offsets }))) }
+        ensures leads { IfOk result (λ cycle. (past : List AiredTables) (quota : ℕ)
+            → cycle.leads ≡ leads_in self.old.rate past
             (aired tables.list moment.0 (record { quota = quota; offsets = self.old.offsets }))) }
         ensures rate { self.new.rate ≡ self.old.rate }
         ensures offsets { self.new.offsets ≡ self.old.offsets }
@@ -175,7 +180,17 @@ impl TimedPlayer {
         )?;
         let end = clock.later(rate, begun.packets);
         self.clock = end;
-        Ok(begun.is_right)
+        Ok(Timeliness {
+            is_right: begun.is_right,
+            leads: begun.leads,
+        })
+    }
+
+    /// The clock at the end of the cycle.
+    pub fn clock(&self) -> Clock
+        ensures { reads result ≡ self.now.clock }
+    {
+        self.clock
     }
 
     /// Whether the cycle has ended: nothing of it is to come.

@@ -5,7 +5,7 @@ ghost use Rattle.std.specs.List.{AllByRecursion};
 ghost use Rattle.air_timing.specs.PlanView.{left_of};
 ghost use Rattle.air_model.specs.Air.{CanBeTold, sections_once};
 ghost use Rattle.air_model.specs.Bursts.{paced_packets};
-ghost use Rattle.air_paced.specs.Again.{IsRight};
+ghost use Rattle.air_paced.specs.Again.{IsRight, leads_in};
 ghost use Rattle.air_paced.specs.Planning.{timings_of};
 ghost use Rattle.section_codec.specs.SubTables.{AreFit};
 ghost use Rattle.section_packing.specs.Packing.{packets_behind};
@@ -18,7 +18,7 @@ ghost use Rattle.timed_player.specs.Clock.{reads};
 ghost use Rattle.timed_player.specs.Running.{first_of, shares_with, run_of, bursts_of, packets_left, after, Begins, PassesNull, BeginsRun, IsAtStart, IsOver};
 
 use crate::clock::Clock;
-use air_timing::{FramePlan, Timing};
+use air_timing::{FramePlan, Leads, Timing};
 use cycle_laying::{LaidSections, Placed};
 use cycle_timing::plan_timed;
 use guide_model::Offset;
@@ -32,12 +32,13 @@ use version_book::VersionBook;
 // The last byte of each section of a cycle stands in a packet below this one.
 const MOST_PACKETS: u64 = 4_611_686_018_427_387_904;
 
-/// What is known of a cycle that begins: how many packets it has, and whether the span of its
-/// frames is right.
+/// What is known of a cycle that begins: how many packets it has, whether the span of its frames is
+/// right, and what the leads of these are like.
 #[derive(Clone, Copy)]
 pub(crate) struct Begun {
     pub(crate) packets: u64,
     pub(crate) is_right: bool,
+    pub(crate) leads: Leads,
 }
 
 /// The sections of a cycle, each laid once, and how far its runs were sent. Contracts see where the
@@ -148,6 +149,9 @@ impl RunQueue {
         ensures right { IfOk result (λ begun. (past : List AiredTables) (a : AiredTables)
             → a.tables ≡ tables.now.list → a.form.offsets ≡ offsets.now
             → IsTrue begun.is_right ↔ IsRight rate past a) }
+        ensures leads { IfOk result (λ begun. (past : List AiredTables) (a : AiredTables)
+            → a.tables ≡ tables.now.list → a.form.offsets ≡ offsets.now
+            → begun.leads ≡ leads_in rate past a) }
         ensures ended { OnErr result (IsOver self.new) }
         ensures kept { OnErr result (book.new ≡ book.old) }
     {
@@ -167,6 +171,7 @@ impl RunQueue {
         Ok(Begun {
             packets,
             is_right: plan.is_right,
+            leads: plan.leads,
         })
     }
 

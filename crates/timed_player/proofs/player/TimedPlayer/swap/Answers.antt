@@ -1,10 +1,10 @@
-use Rattle.std.proofs.Common.{List, refl, sym, ap, ◌∙◌, subst}
+use Rattle.std.proofs.Common.{◌≡◌, List, refl, sym, ap, ◌∙◌, subst}
 use Rattle.guide_model.specs.declared.offset.Offset.{Offset}
 use Rattle.version_book.specs.Airings.{CycleForm, AiredTables}
 use Rattle.version_book.specs.Book.{aired}
 use Rattle.air_model.specs.Air.{airings_of}
 use Rattle.air_paced.specs.Airs.{CanBeTimed}
-use Rattle.air_paced.specs.Again.{IsRight}
+use Rattle.air_paced.specs.Again.{IsRight, leads_in}
 use Rattle.std.specs.Prelude.{IsTrue, ◌↔◌}
 use Rattle.timed_player.specs.Clock.{reads}
 use Rattle.timed_player.specs.Player.{playing_of}
@@ -32,9 +32,17 @@ returns-clause-begun c xs quota end =
     subst (λ (p : TimedPlaying). Begins xs (aired tables moment (let f : CycleForm = record { quota = quota; offsets = p.offsets } in f)) new) c.self.view_is begins
 
 pub returns-clause-right : goal.returns-clause-right
-returns-clause-right c xs quota =
+returns-clause-right c past quota =
     let i = c.self.inside in
     let tables = c.args.tables.list in
     let moment = c.args.moment.0 in
-    subst (λ (p : TimedPlaying). IsTrue c.in_ok-begun.begun.is_right ↔ IsRight p.rate (airings_of xs) (aired tables moment (let f : CycleForm = record { quota = quota; offsets = p.offsets } in f))) c.self.view_is
-    (c.in_ok-begun.ensures.right (airings_of xs) (aired tables moment (let f : CycleForm = record { quota = quota; offsets = i.offsets } in f)) refl (sym c.as_slice.ensures))
+    subst (λ (p : TimedPlaying). IsTrue c.in_ok-begun.begun.is_right ↔ IsRight p.rate past (aired tables moment (let f : CycleForm = record { quota = quota; offsets = p.offsets } in f))) c.self.view_is
+    (c.in_ok-begun.ensures.right past (aired tables moment (let f : CycleForm = record { quota = quota; offsets = i.offsets } in f)) refl (sym c.as_slice.ensures))
+
+pub returns-clause-leads : goal.returns-clause-leads
+returns-clause-leads c past quota =
+    let i = c.self.inside in
+    let tables = c.args.tables.list in
+    let moment = c.args.moment.0 in
+    subst (λ (p : TimedPlaying). c.in_ok-begun.begun.leads ≡ leads_in p.rate past (aired tables moment (let f : CycleForm = record { quota = quota; offsets = p.offsets } in f))) c.self.view_is
+    (c.in_ok-begun.ensures.leads past (aired tables moment (let f : CycleForm = record { quota = quota; offsets = i.offsets } in f)) refl (sym c.as_slice.ensures))

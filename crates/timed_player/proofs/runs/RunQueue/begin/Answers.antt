@@ -38,3 +38,6 @@ returns-clause-left c past a tables offsets = c.in_ok-timings.ensures.all ∙ c.
 
 pub returns-clause-right : goal.returns-clause-right
 returns-clause-right c past a tables offsets = c.in_ok-plan.ensures.right past a (tables ∙ sym c.as_slice-list.ensures) offsets
+
+pub returns-clause-leads : goal.returns-clause-leads
+returns-clause-leads c past a tables offsets = c.in_ok-plan.ensures.leads past a (tables ∙ sym c.as_slice-list.ensures) offsets
