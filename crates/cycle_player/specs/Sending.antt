@@ -13,12 +13,14 @@ use Rattle.carousel_player.specs.Playing as dense
 use Rattle.timed_player.specs.Playing.{TimedPlaying}
 use Rattle.timed_player.specs.Playing as timed
 use Rattle.timed_player.specs.declared.clock.Clock.{Clock as KeptClock}
+use Rattle.timed_player.specs.Tally.{Tallied}
 use Rattle.si_causes.specs.Causes.{AppendsFront}
 use Rattle.cycle_player.specs.Airs.{cycle_at}
 
 -- what contracts see of a player: its version book, its counters, the packets of the cycle that are
--- still to come, not yet counted, the form of its cycles, its bit rate where it has one, and the
--- clock at the end of the cycle, which is not used where it has none
+-- still to come, not yet counted, the form of its cycles, its bit rate where it has one, the clock at
+-- the end of the cycle, which is not used where it has none, and the tally of the cycles at a rate
+-- that it has begun
 pub record Sending : Type 0 where
   pub book : GivenVersions
   pub counters : List (Option ℕ)
@@ -26,6 +28,7 @@ pub record Sending : Type 0 where
   pub form : CycleForm
   pub rate : Option ℕ
   pub clock : Clock
+  pub tally : Tallied
 
 -- as a player without a bit rate, and as one at this rate
 abbrev pub as_dense : Sending → Playing

@@ -6,9 +6,13 @@ ghost use Rattle.ts_packets.specs.Bytes.{Packet, bytes_of_packet};
 ghost use Rattle.ts_packets.specs.PidCounters.{IsPidCounter, ArePidCountersOf, counter_in};
 ghost use Rattle.section_codec.specs.declared.table.Key.{Key};
 ghost use Rattle.section_codec.specs.SubTables.{AreFit};
+ghost use Rattle.version_book.specs.Airings.{AiredTables};
 ghost use Rattle.version_book.specs.Book.{AreKeyVersionsOf, aired, given_in, given_entries};
 ghost use Rattle.air_model.specs.Air.{Aired, CanBeTold};
 ghost use Rattle.timed_player.specs.Clock.{reads};
+ghost use Rattle.timed_player.specs.Tally.{no_cycles};
+ghost use Rattle.cycle_player.specs.Ticks.{told_by, tick_at};
+ghost use Rattle.cycle_player.specs.Tallies.{tallied_at};
 ghost use Rattle.cycle_player.specs.Sending.{AtEnd, AreKeptAt, Within, Begins, GaveUp};
 ghost use Rattle.cycle_player.specs.Player.{CanBeRate};
 
@@ -19,7 +23,7 @@ use si_causes::{Failed, Sink};
 use si_time::Moment;
 use std::alloc::{AllocError, Global};
 use std::marker::Model;
-use timed_player::{Clock, PlayerState, TimedPlayer};
+use timed_player::{Clock, PlayerState, Tally, TimedPlayer};
 use ts_packets::{PidCounter, TsPacket};
 use version_book::KeyVersions;
 
@@ -32,10 +36,12 @@ enum Kind {
 
 /// A player of cycles, at a bit rate or without one. It stands for the air that it has handed out:
 /// the cycles of all airings swapped to, the last one as far as it has come. Versions, continuity
-/// counters and the clock go on over all cycles.
+/// counters and the clock go on over all cycles. Of the cycles at a rate that it has begun itself it
+/// counts those that are short.
 #[derive(Drop)]
 pub struct CyclePlayer {
     kind: Kind,
+    tally: Tally,
 }
 
 impl Model for CyclePlayer {
@@ -61,12 +67,16 @@ impl CyclePlayer {
         ensures at_end { AtEnd [] result }
         ensures form { result.form ≡ record { quota = quota; offsets = offsets } }
         ensures rate { result.rate ≡ rate }
+        ensures tally { result.tally ≡ no_cycles }
     {
         let kind = match rate {
             None => Kind::Dense(Player::open(alloc, quota, offsets)),
             Some(rate) => Kind::Timed(quota, TimedPlayer::open(alloc, rate, offsets)),
         };
-        CyclePlayer { kind }
+        CyclePlayer {
+            kind,
+            tally: Tally::none(),
+        }
     }
 
     /// A player at its end that goes on from what another one kept: versions, each below 32,
@@ -100,6 +110,7 @@ impl CyclePlayer {
         ensures form { IfOk result (λ player.
             player.form ≡ record { quota = quota; offsets = offsets }) }
         ensures rate { IfOk result (λ player. player.rate ≡ rate) }
+        ensures tally { IfOk result (λ player. player.tally ≡ no_cycles) }
     {
         let kind = match rate {
             None => Kind::Dense(Player::resume(alloc, quota, offsets, versions, counters)?),
@@ -108,7 +119,10 @@ impl CyclePlayer {
                 Kind::Timed(quota, player)
             }
         };
-        Ok(CyclePlayer { kind })
+        Ok(CyclePlayer {
+            kind,
+            tally: Tally::none(),
+        })
     }
 
     /// What a player at its end goes on from (`resume`). What was handed in counts as carried and
@@ -152,14 +166,40 @@ impl CyclePlayer {
             → OnOk result (Begins xs (aired tables.list moment.0 self.old.form) self.new) }
         ensures form { self.new.form ≡ self.old.form }
         ensures rate { self.new.rate ≡ self.old.rate }
+        ensures tally { OnOk result ((past : List AiredTables) → self.new.tally
+            ≡ tallied_at self.old.rate past (aired tables.list moment.0 self.old.form)
+            self.old.tally) }
         ensures memory { OnErr result (self.new ≡ self.old) }
     {
         match &mut self.kind {
             Kind::Dense(player) => player.swap(tables, number, moment),
             Kind::Timed(_, player) => {
-                player.swap(tables, moment)?;
+                if self.tally.is_full() {
+                    return Err(AllocError);
+                }
+                let cycle = player.swap(tables, moment)?;
+                self.tally = self.tally.with(cycle);
                 Ok(())
             }
+        }
+    }
+
+    /// What its cycles at a rate are like, of those that were begun since it was opened or resumed.
+    pub fn tally(&self) -> Tally
+        ensures { result ≡ self.now.tally }
+    {
+        self.tally
+    }
+
+    /// The moment that the clock reads at the end of the cycle, at most the last one whose day has
+    /// 16 bits. There is none without a bit rate, and none while the clock stands at 0, before the
+    /// first swap.
+    pub fn time(&self) -> Option<Moment>
+        ensures { result ≡ tick_at self.now.rate self.now.clock }
+    {
+        match &self.kind {
+            Kind::Dense(_) => None,
+            Kind::Timed(_, player) => moment_of(player.clock()),
         }
     }
 
@@ -182,6 +222,7 @@ impl CyclePlayer {
         ensures kept { IfNone result (self.new ≡ self.old) }
         ensures form { self.new.form ≡ self.old.form }
         ensures rate { self.new.rate ≡ self.old.rate }
+        ensures tally { self.new.tally ≡ self.old.tally }
     {
         match &mut self.kind {
             Kind::Dense(player) => player.next_packet(),
@@ -207,10 +248,23 @@ impl CyclePlayer {
         ensures same { A.same sink.old sink.new }
         ensures form { self.new.form ≡ self.old.form }
         ensures rate { self.new.rate ≡ self.old.rate }
+        ensures tally { self.new.tally ≡ self.old.tally }
     {
         match &mut self.kind {
             Kind::Dense(player) => player.play_cycle(sink),
             Kind::Timed(_, player) => player.play_cycle(sink),
         }
     }
+}
+
+// The last moment whose day has 16 bits (EN 300 468, annex C).
+const LAST_MOMENT: u64 = 65_536 * 86_400 - 1;
+
+fn moment_of(clock: Clock) -> Option<Moment>
+    ensures { result ≡ told_by (reads clock) }
+{
+    if clock.moment == 0 {
+        return None;
+    }
+    Some(Moment(clock.moment.min(LAST_MOMENT)))
 }
