@@ -3,3 +3,4 @@ pub mod SwapFacts
 pub mod Keys
 pub mod Spaced
 pub mod Sent
+pub mod Tallied

@@ -96,7 +96,7 @@ airings-swap mux xs e aired legal some =
 pub step_legal : (desk : DeskState) (who : ℕ) (step : Step) → Legal desk.mux desk.entries → Legal (and_step desk who step).mux (and_step desk who step).entries
 step_legal desk who step legal = legal_more desk.mux [] desk.entries (record { who = who; step = step; outcome = outcome_of desk.mux desk.entries step }) legal refl
 
-swap_airs : (mux : Mux) (xs : List Entry) (step : Step) → is_swap step ≡ true → aired_by (outcome_of mux xs step) ≡ Some (publishes xs, moment_of mux xs)
+pub swap_airs : (mux : Mux) (xs : List Entry) (step : Step) → is_swap step ≡ true → aired_by (outcome_of mux xs step) ≡ Some (publishes xs, moment_of mux xs)
 swap_airs mux xs Swap h = refl
 swap_airs mux xs Publish h = cc
 swap_airs mux xs (edit feed e) h = cc
@@ -114,7 +114,7 @@ is_swap-Swap Publish h = cc
 is_swap-Swap (edit feed e) h = cc
 is_swap-Swap (Tick at) h = cc
 
-other_airings : (desk : DeskState) (who : ℕ) (step : Step) → Legal desk.mux desk.entries → is_swap step ≡ false → airings desk.mux desk.entries ≡ airings (and_step desk who step).mux (and_step desk who step).entries
+pub other_airings : (desk : DeskState) (who : ℕ) (step : Step) → Legal desk.mux desk.entries → is_swap step ≡ false → airings desk.mux desk.entries ≡ airings (and_step desk who step).mux (and_step desk who step).entries
 other_airings desk who step legal h =
     sym (airings-other desk.mux desk.entries (record { who = who; step = step; outcome = outcome_of desk.mux desk.entries step }) legal (other_airs desk.mux desk.entries step h))
 

@@ -6,7 +6,9 @@ ghost use Rattle.mux_model.specs.Sound.{IsSound};
 ghost use Rattle.guide_limits.specs.Limits.{IsGuideWithin};
 ghost use Rattle.publication.specs.Tables.{HasServicesOf};
 ghost use Rattle.air_sending.specs.declared.send.SendStop.TheVariants.{Memory};
+ghost use Rattle.timed_player.specs.Tally.{no_cycles};
 ghost use Rattle.air_sending.specs.OnAir.{SentCycle, IsPlayerOf, airing_by, airing_on, HasAirCause};
+ghost use Rattle.air_sending.specs.Tallied.{CountedCycle};
 
 use cycle_player::CyclePlayer;
 use desk_core::{Airing, Desk};
@@ -37,6 +39,7 @@ pub fn open_player(alloc: Global, mux: &Mux) -> Result<CyclePlayer, AllocError>
     requires { IsSound mux.now }
     ensures at_end { IfOk result (AtEnd []) }
     ensures player_of { IfOk result (IsPlayerOf mux.now) }
+    ensures tally { IfOk result (λ player. player.tally ≡ no_cycles) }
 {
     let offsets = mux.offsets.copy()?;
     Ok(CyclePlayer::open(alloc, mux.rate, mux.quota, offsets))
@@ -67,6 +70,7 @@ pub fn send_cycle<A: Sink>(
     ensures ended { OnOk result (player.new.left ≡ []) }
     ensures form { player.new.form ≡ player.old.form }
     ensures rate { player.new.rate ≡ player.old.rate }
+    ensures counted { CountedCycle (airing_by mux.now player.old.form airing.now) player.old player.new result }
     ensures cause { HasAirCause (A.faults air.old) (A.faults air.new) result }
     ensures memory { result ≡ Err SendStop.Memory → (air.new ≡ air.old) × (player.new ≡ player.old) }
     ensures later { A.faults air.old ≤ A.faults air.new }
@@ -92,6 +96,7 @@ pub fn send_on_air<A: Sink>(
     ensures ended { OnOk result (player.new.left ≡ []) }
     ensures form { player.new.form ≡ player.old.form }
     ensures rate { player.new.rate ≡ player.old.rate }
+    ensures counted { CountedCycle (airing_on desk.now player.old.form) player.old player.new result }
     ensures cause { HasAirCause (A.faults air.old) (A.faults air.new) result }
     ensures memory { result ≡ Err SendStop.Memory → (air.new ≡ air.old) × (player.new ≡ player.old) }
     ensures later { A.faults air.old ≤ A.faults air.new }
