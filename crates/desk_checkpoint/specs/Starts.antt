@@ -7,6 +7,7 @@ use Rattle.input_lines.specs.declared.stop.EditStop.TheVariants as edits
 use Rattle.input_lines.specs.Ahead.{Stop, NoCommand, TooLong}
 use Rattle.air_model.specs.Air.{Aired}
 use Rattle.cycle_player.specs.Sending.{AtEnd, AreKeptAt}
+use Rattle.timed_player.specs.Tally.{no_cycles}
 use Rattle.mux_model.specs.declared.mux.Mux.{Mux}
 use Rattle.air_sending.specs.OnAir.{IsPlayerOf}
 use Rattle.checkpoint_laws.specs.Steps.{shift_of}
@@ -53,12 +54,14 @@ pub record StartsFrom (cp : Checkpoint) (start : Start) : Type 0 where
   pub player : (xs : List Aired) → AreKeptAt cp.desk.mux.rate xs cp.keys cp.counters cp.clock
       → AtEnd xs start.player
 
--- whatever was read: the desk is one of the multiplex, and so is the player, which is at its end
+-- Whatever was read: the desk is one of the multiplex, and so is the player, which is at its end and
+-- has counted no cycle.
 pub record IsStart (mux : Mux) (start : Start) : Type 0 where
   pub mux_is : start.desk.mux ≡ mux
   pub ended : start.player.left ≡ []
   pub player_of : IsPlayerOf mux start.player
   pub shift : start.shift < 10 ^ 18
+  pub tally : start.player.tally ≡ no_cycles
 
 -- what reading a checkpoint gives, where the text is told
 abbrev pub GivesStart : Result Checkpoint Stop → Result Start CheckStop → Type 0

@@ -9,4 +9,5 @@ pub mod ReportFacts
 pub mod OutcomeFacts
 mod StopLines
 pub mod SentFacts
+mod TallyFacts
 pub mod PlayRunFacts

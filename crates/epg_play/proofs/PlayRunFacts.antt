@@ -10,7 +10,6 @@ use Rattle.epg_report.specs.declared.status.Outlet.TheVariants.{Air, Report}
 use Rattle.epg_report.specs.Told.{ReportTaken, SourceGave}
 use Rattle.epg_play.specs.Script.{script_in}
 use Rattle.si_causes.specs.declared.stop.ReadStop.TheVariants.{Failed, TooLong as Overlong}
-use Rattle.journal_model.specs.declared.step.Entry.{Entry}
 use Rattle.epg_play.specs.declared.stop.PlayStop.{PlayStop}
 use Rattle.epg_play.specs.declared.stop.PlayStop.TheVariants.{NoMux as Undescribed, NoCommand as Refused, Disagrees as Differs, Read, Air as OnAir, Memory as NoMemory}
 use Rattle.epg_play.specs.Ending.{Finished, FinishedBy, HasAirStopCause, HasStopCause}
@@ -61,13 +60,13 @@ known_by (Read Failed) = tt
 known_by OnAir = tt
 known_by NoMemory = tt
 
-pub known : (stop : Option PlayStop) (entries : List Entry) (report : ReportTaken) (status : Status) → Finished stop entries report status → IsOfPlay status
-known stop entries report status (inl memory) = subst IsOfPlay (sym memory) tt
-known None entries report Done (inr took) = tt
-known None entries report (WriteFault Report) (inr took) = tt
-known None entries report (WriteFault Air) (inr took) = absurd took
-known None entries report other (inr took) = absurd took
-known (Some stop) entries report status (inr (same, took)) = subst IsOfPlay (sym same) (known_by stop)
+pub known : (stop : Option PlayStop) (said : List ℕ) (report : ReportTaken) (status : Status) → Finished stop said report status → IsOfPlay status
+known stop said report status (inl memory) = subst IsOfPlay (sym memory) tt
+known None said report Done (inr took) = tt
+known None said report (WriteFault Report) (inr took) = tt
+known None said report (WriteFault Air) (inr took) = absurd took
+known None said report other (inr took) = absurd took
+known (Some stop) said report status (inr (same, took)) = subst IsOfPlay (sym same) (known_by stop)
 
 -- no stop is answered with Done, nor with a fault of the report
 not_done : (stop : PlayStop) → status_for stop ≡ Done → ⊥
@@ -88,13 +87,13 @@ not_report (Read Failed) e = cc
 not_report OnAir e = cc
 not_report NoMemory e = cc
 
-pub done_none : (stop : Option PlayStop) (entries : List Entry) (report : ReportTaken) (status : Status) → Finished stop entries report status → status ≡ Done → stop ≡ None
-done_none stop entries report status (inl memory) e = (let no : Memory ≡ Done = sym memory ∙ e in absurd (memory_not_done no))
+pub done_none : (stop : Option PlayStop) (said : List ℕ) (report : ReportTaken) (status : Status) → Finished stop said report status → status ≡ Done → stop ≡ None
+done_none stop said report status (inl memory) e = (let no : Memory ≡ Done = sym memory ∙ e in absurd (memory_not_done no))
   where
     memory_not_done : Memory ≡ Done → ⊥
     memory_not_done h = cc
-done_none None entries report status (inr took) e = refl
-done_none (Some stop) entries report status (inr (same, took)) e = absurd (not_done stop (sym same ∙ e))
+done_none None said report status (inr took) e = refl
+done_none (Some stop) said report status (inr (same, took)) e = absurd (not_done stop (sym same ∙ e))
 
 -- a failed read is that of the stop
 read_cause : (before now : ℕ) (stop : PlayStop) → HasStopCause before now (Some stop) → status_for stop ≡ ReadFault Input → Rose before now
@@ -106,13 +105,13 @@ read_cause before now (Read Failed) cause e = cause
 read_cause before now OnAir cause e = (let no : ⊥ = cc in absurd no)
 read_cause before now NoMemory cause e = (let no : ⊥ = cc in absurd no)
 
-pub input_rose : (before now : ℕ) (stop : Option PlayStop) (entries : List Entry) (report : ReportTaken) (status : Status) → HasStopCause before now stop → Finished stop entries report status → status ≡ ReadFault Input → Rose before now
-input_rose before now stop entries report status cause (inl memory) e = (let no : Memory ≡ ReadFault Input = sym memory ∙ e in absurd (memory_not_read no))
+pub input_rose : (before now : ℕ) (stop : Option PlayStop) (said : List ℕ) (report : ReportTaken) (status : Status) → HasStopCause before now stop → Finished stop said report status → status ≡ ReadFault Input → Rose before now
+input_rose before now stop said report status cause (inl memory) e = (let no : Memory ≡ ReadFault Input = sym memory ∙ e in absurd (memory_not_read no))
   where
     memory_not_read : Memory ≡ ReadFault Input → ⊥
     memory_not_read h = cc
-input_rose before now None entries report status cause (inr took) e = absurd (subst (FinishedBy None entries report) e took)
-input_rose before now (Some stop) entries report status cause (inr (same, took)) e = read_cause before now stop cause (sym same ∙ e)
+input_rose before now None said report status cause (inr took) e = absurd (subst (FinishedBy None said report) e took)
+input_rose before now (Some stop) said report status cause (inr (same, took)) e = read_cause before now stop cause (sym same ∙ e)
 
 write_cause : (before now : ℕ) (stop : PlayStop) → HasAirStopCause before now (Some stop) → status_for stop ≡ WriteFault Air → Rose before now
 write_cause before now (Undescribed fault) cause e = (let no : ⊥ = cc in absurd no)
@@ -123,18 +122,18 @@ write_cause before now (Read Failed) cause e = (let no : ⊥ = cc in absurd no)
 write_cause before now OnAir cause e = cause
 write_cause before now NoMemory cause e = (let no : ⊥ = cc in absurd no)
 
-pub air_rose : (before now : ℕ) (stop : Option PlayStop) (entries : List Entry) (report : ReportTaken) (status : Status) → HasAirStopCause before now stop → Finished stop entries report status → status ≡ WriteFault Air → Rose before now
-air_rose before now stop entries report status cause (inl memory) e = (let no : Memory ≡ WriteFault Air = sym memory ∙ e in absurd (memory_not_air no))
+pub air_rose : (before now : ℕ) (stop : Option PlayStop) (said : List ℕ) (report : ReportTaken) (status : Status) → HasAirStopCause before now stop → Finished stop said report status → status ≡ WriteFault Air → Rose before now
+air_rose before now stop said report status cause (inl memory) e = (let no : Memory ≡ WriteFault Air = sym memory ∙ e in absurd (memory_not_air no))
   where
     memory_not_air : Memory ≡ WriteFault Air → ⊥
     memory_not_air h = cc
-air_rose before now None entries report status cause (inr took) e = absurd (subst (FinishedBy None entries report) e took)
-air_rose before now (Some stop) entries report status cause (inr (same, took)) e = write_cause before now stop cause (sym same ∙ e)
+air_rose before now None said report status cause (inr took) e = absurd (subst (FinishedBy None said report) e took)
+air_rose before now (Some stop) said report status cause (inr (same, took)) e = write_cause before now stop cause (sym same ∙ e)
 
-pub report_rose : (stop : Option PlayStop) (entries : List Entry) (report : ReportTaken) (status : Status) → Finished stop entries report status → status ≡ WriteFault Report → Rose report.faults_old report.faults_new
-report_rose stop entries report status (inl memory) e = (let no : Memory ≡ WriteFault Report = sym memory ∙ e in absurd (memory_not_report no))
+pub report_rose : (stop : Option PlayStop) (said : List ℕ) (report : ReportTaken) (status : Status) → Finished stop said report status → status ≡ WriteFault Report → Rose report.faults_old report.faults_new
+report_rose stop said report status (inl memory) e = (let no : Memory ≡ WriteFault Report = sym memory ∙ e in absurd (memory_not_report no))
   where
     memory_not_report : Memory ≡ WriteFault Report → ⊥
     memory_not_report h = cc
-report_rose None entries report status (inr took) e = (subst (FinishedBy None entries report) e took).1
-report_rose (Some stop) entries report status (inr (same, took)) e = absurd (not_report stop (sym same ∙ e))
+report_rose None said report status (inr took) e = (subst (FinishedBy None said report) e took).1
+report_rose (Some stop) said report status (inr (same, took)) e = absurd (not_report stop (sym same ∙ e))

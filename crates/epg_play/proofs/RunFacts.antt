@@ -35,6 +35,8 @@ use Rattle.desk_core.specs.Desks.{DeskState, fresh}
 use Rattle.journal_text.specs.Entries.{journal_text}
 use Rattle.journal_air.specs.Air.{airings}
 use Rattle.air_sending.specs.OnAir.{HasSentAll, HasAired, HasAiredFront, IsPlayerOf}
+use Rattle.air_sending.specs.Tallied.{HasTallied}
+use Rattle.epg_play.specs.declared.ending.HeadEnd.{HeadEnd}
 use Rattle.epg_play.specs.declared.stop.PlayStop.{PlayStop}
 use Rattle.epg_play.specs.declared.stop.PlayStop.TheVariants.{NoMux as Undescribed, NoCommand as Refused, Disagrees as Differs, Read, Air as OnAir, Memory as NoMemory}
 use Rattle.epg_report.specs.declared.status.Status.{Status}
@@ -47,14 +49,15 @@ use Rattle.journal_model.specs.declared.step.Outcome.TheVariants.{Edited, Ticked
 use Rattle.checkpoint_laws.specs.Going.{all_raised, raised}
 use Rattle.script_lines.specs.Script.{asked_by, items_ahead}
 use Rattle.epg_play.specs.Items.{Stops, Went, course_at}
-use Rattle.epg_play.specs.Played.{AiredTo, PlayedWhole, RestDid, RestTaken, course, desk_after}
+use Rattle.epg_play.specs.Played.{AiredTo, PlayedWhole, RestDid, RestTaken, TalliedTo, course, desk_after}
 use Rattle.epg_report.specs.Texts.{fault_line}
-use Rattle.epg_play.specs.Leaves.{IsAired, IsAiredFront, IsSent, Leaves, LeavesAll, Completes, first_journal, whole_journal, status_for, stop_text}
-use Rattle.epg_play.specs.Ending.{HasPlayed, HasPlayedAll, HasPlayedTaken, Finished, FinishedBy, entries_of, mux_stop}
+use Rattle.epg_play.specs.Leaves.{IsAired, IsAiredFront, IsSent, Leaves, LeavesAll, Completes, first_journal, rates_for, report_text, whole_journal, whole_report, status_for, stop_text}
+use Rattle.epg_play.specs.Ending.{HasPlayed, HasPlayedAll, HasPlayedCut, HasPlayedTaken, Finished, FinishedBy, entries_of, mux_stop, played_text, rates_of}
 use Rattle.epg_report.specs.Told.{ReportTaken, Reported}
 use Rattle.air_sending.specs.AirOf.{AirOf}
 use Rattle.epg_play.proofs.CourseFacts.{Rest}
 use Rattle.epg_play.proofs.SentFacts.{cut_sent, whole_sent}
+use Rattle.epg_play.proofs.TallyFacts.{rates_are}
 
 -- ---- a script's own course, whose publications have the numbers of its journal
 
@@ -105,15 +108,15 @@ faulty_script (Stopped lines.Unread) fault e = cc e
 -- ---- what was played
 
 nothing_played : (script : Script) (stop : Stop) (air : ReportTaken) → script ≡ no_mux stop → air.old ≡ air.new → HasPlayedAll script stop air None
-nothing_played script stop air e same = subst (λ (s : Script). HasPlayedAll s stop air None) (sym e) (record { stopped = refl; air_is = none_aired air same; journal = refl })
+nothing_played script stop air e same = subst (λ (s : Script). HasPlayedAll s stop air None) (sym e) (record { stopped = refl; air_is = none_aired air same; journal = refl; rates = refl })
 
 -- of known bytes some were taken, and the others are left
 pub bytes_left : (left : Known) (text taken : List ℕ) → Consumes (Some text) left taken → (behind : List ℕ) × (text ≡ taken ++ behind) × (left ≡ Some behind)
 bytes_left None text taken h = absurd h
 bytes_left (Some behind) text taken h = (behind, h, refl)
 
-taken_played : (text taken : List ℕ) (old left : Known) (air : ReportTaken) (desk : Option DeskState) → old ≡ Some text → Consumes old left taken → HasPlayedAll (script_taken taken) Unread air desk → HasPlayedTaken text left air desk
-taken_played text taken old left air desk told gave all =
+taken_played : (text taken : List ℕ) (old left : Known) (air : ReportTaken) (end : Option HeadEnd) → old ≡ Some text → Consumes old left taken → HasPlayedAll (script_taken taken) Unread air end → HasPlayedTaken text left air end
+taken_played text taken old left air end told gave all =
     let b = bytes_left left text taken (subst (λ (o : Known). Consumes o left taken) told gave) in
     record { taken = taken; behind = b.0; text_is = b.1; left_is = b.2; all = all }
 
@@ -170,48 +173,61 @@ front_is mux desk commands air d f = record {
   };
 }
 
+-- a head-end after a script
+abbrev pub head_end : DeskState → Sending → HeadEnd
+head_end desk player = record { desk = desk; tally = player.tally }
+
 -- all commands were played
 played_all : (script : Script) (stop : Stop) (mux : Mux) (rest : Rest) (desk : DeskState) (player : Sending) (air : ReportTaken) → script ≡ with_commands mux rest → (rest.1 ≡ stop) × (desk ≡ desk_after (fresh mux) rest.0)
-    → HasAired [] desk player air.old air.new → HasPlayedAll script stop air (Some desk)
-played_all script stop mux rest desk player air e did aired =
-    subst (λ (s : Script). HasPlayedAll s stop air (Some desk)) (sym e)
-    (record { stopped = did.0; air_is = aired_is mux desk player rest.0 air did.1 aired; journal = ap (λ (x : DeskState). x.entries) did.1 })
+    → HasAired [] desk player air.old air.new → HasTallied desk player → HasPlayedAll script stop air (Some (head_end desk player))
+played_all script stop mux rest desk player air e did aired tallied =
+    subst (λ (s : Script). HasPlayedAll s stop air (Some (head_end desk player))) (sym e) (record {
+      stopped = did.0;
+      air_is = aired_is mux desk player rest.0 air did.1 aired;
+      journal = ap (λ (x : DeskState). x.entries) did.1;
+      rates = rates_are mux desk player rest.0 did.1 tallied;
+    })
 
 -- those of the lines that were whole, where a read failed
 played_taken : {S : Type 0} (left : S → Known) (source : S) (mid new : Reading S) (text : List ℕ) (mux : Mux) (desk : DeskState) (player : Sending) (air : ReportTaken) → left source ≡ Some text
-    → Passes left description_ahead (Came (Ok mux)) (unread source) mid → PlayedWhole 0 left mid new (fresh mux) desk → HasAired [] desk player air.old air.new → HasPlayedTaken text (left new.source) air (Some desk)
-played_taken left source mid new text mux desk player air told came p aired =
+    → Passes left description_ahead (Came (Ok mux)) (unread source) mid → PlayedWhole 0 left mid new (fresh mux) desk → HasAired [] desk player air.old air.new → HasTallied desk player
+    → HasPlayedTaken text (left new.source) air (Some (head_end desk player))
+played_taken left source mid new text mux desk player air told came p aired tallied =
     let both : WereWhole left (unread source) new (came.looked.lines ++ p.lines) = whole_more left (unread source) mid new came.looked.lines p.lines came.looked.handed p.unended p.whole in
     let script : script_taken both.more ≡ with_commands mux (plain mux (ahead_with mid p.lines Breaks)) =
     ap (λ l. script_with (description_ahead (ahead_with (unread source) l Breaks))) both.whole ∙ ap script_with (came.reads p.lines Breaks) in
-    taken_played text both.more (left source) (left new.source) air (Some desk) told both.gave
-    (played_all (script_taken both.more) Unread mux (plain mux (ahead_with mid p.lines Breaks)) desk player air script (plain_did mux (ahead_with mid p.lines Breaks) Unread desk (p.stop, p.did)) aired)
+    taken_played text both.more (left source) (left new.source) air (Some (head_end desk player)) told both.gave
+    (played_all (script_taken both.more) Unread mux (plain mux (ahead_with mid p.lines Breaks)) desk player air script (plain_did mux (ahead_with mid p.lines Breaks) Unread desk (p.stop, p.did)) aired tallied)
+
+-- the first commands, and a part of the cycle of the last one
+played_cut : (script : Script) (mux : Mux) (rest : Rest) (desk : DeskState) (player : Sending) (air : ReportTaken) (k : ℕ) → script ≡ with_commands mux rest → desk ≡ desk_after (fresh mux) (take k rest.0)
+    → HasAiredFront [] desk air.old air.new → HasTallied desk player → HasPlayedCut script air (Some (head_end desk player))
+played_cut script mux rest desk player air k e did aired tallied =
+    subst (λ (s : Script). HasPlayedCut s air (Some (head_end desk player))) (sym e) (record {
+      k = k;
+      air_is = front_is mux desk (take k rest.0) air did aired;
+      journal = ap (λ (x : DeskState). x.entries) did;
+      rates = rates_are mux desk player (take k rest.0) did tallied;
+    })
 
 -- what was played behind the description of a multiplex
 pub played_behind : {S : Type 0} (left : S → Known) (source : S) (mid new : Reading S) (text : List ℕ) (mux : Mux) (desk : DeskState) (player : Sending) (air : ReportTaken) (r : Result (Unit {0}) PlayStop) → left source ≡ Some text
     → LeavesAhead left description_ahead (Came (Ok mux)) (unread source) mid text → Passes left description_ahead (Came (Ok mux)) (unread source) mid
-    → ((rest : List ℕ) → text_left left mid ≡ Some rest → RestDid (plain mux (ahead mid rest)) (fresh mux) desk r) → RestTaken 0 left mid new (fresh mux) desk r → AiredTo [] desk player air.old air.new r
-    → HasPlayed text (left new.source) air (Some desk) (result_err r)
-played_behind left source mid new text mux desk player air (Ok u) told d came did taken aired =
-    played_all (script_in text) Ended mux (plain mux (ahead mid d.rest)) desk player air (ap script_with d.reads) (did d.rest d.told) aired
-played_behind left source mid new text mux desk player air (Err (Undescribed fault)) told d came did taken aired = absurd (did d.rest d.told)
-played_behind left source mid new text mux desk player air (Err (Refused n)) told d came did taken aired =
-    played_all (script_in text) (NoCommand n) mux (plain mux (ahead mid d.rest)) desk player air (ap script_with d.reads) (did d.rest d.told) aired
-played_behind left source mid new text mux desk player air (Err (Differs n kept found)) told d came did taken aired =
-    played_all (script_in text) (Disagreed n kept found) mux (plain mux (ahead mid d.rest)) desk player air (ap script_with d.reads) (did d.rest d.told) aired
-played_behind left source mid new text mux desk player air (Err (Read Overlong)) told d came did taken aired =
-    played_all (script_in text) TooLong mux (plain mux (ahead mid d.rest)) desk player air (ap script_with d.reads) (did d.rest d.told) aired
-played_behind left source mid new text mux desk player air (Err (Read Failed)) told d came did taken aired = played_taken left source mid new text mux desk player air told came taken aired
-played_behind left source mid new text mux desk player air (Err OnAir) told d came did taken aired =
-    let rest = plain mux (ahead mid d.rest) in
-    let script : script_in text ≡ with_commands mux rest = ap script_with d.reads in
-    let k = (did d.rest d.told).0 in
-    let desk_is = (did d.rest d.told).1 in (
-      k,
-      subst (λ (s : Script). IsAiredFront s.mux (first_journal k s) air) (sym script) (front_is mux desk (take k rest.0) air desk_is aired),
-      subst (λ (s : Script). desk.entries ≡ first_journal k s) (sym script) (ap (λ (x : DeskState). x.entries) desk_is),
-    )
-played_behind left source mid new text mux desk player air (Err NoMemory) told d came did taken aired = tt
+    → ((rest : List ℕ) → text_left left mid ≡ Some rest → RestDid (plain mux (ahead mid rest)) (fresh mux) desk r) → RestTaken 0 left mid new (fresh mux) desk r → AiredTo [] desk player air.old air.new r → TalliedTo desk player r
+    → HasPlayed text (left new.source) air (Some (head_end desk player)) (result_err r)
+played_behind left source mid new text mux desk player air (Ok u) told d came did taken aired tallied =
+    played_all (script_in text) Ended mux (plain mux (ahead mid d.rest)) desk player air (ap script_with d.reads) (did d.rest d.told) aired tallied
+played_behind left source mid new text mux desk player air (Err (Undescribed fault)) told d came did taken aired tallied = absurd (did d.rest d.told)
+played_behind left source mid new text mux desk player air (Err (Refused n)) told d came did taken aired tallied =
+    played_all (script_in text) (NoCommand n) mux (plain mux (ahead mid d.rest)) desk player air (ap script_with d.reads) (did d.rest d.told) aired tallied
+played_behind left source mid new text mux desk player air (Err (Differs n kept found)) told d came did taken aired tallied =
+    played_all (script_in text) (Disagreed n kept found) mux (plain mux (ahead mid d.rest)) desk player air (ap script_with d.reads) (did d.rest d.told) aired tallied
+played_behind left source mid new text mux desk player air (Err (Read Overlong)) told d came did taken aired tallied =
+    played_all (script_in text) TooLong mux (plain mux (ahead mid d.rest)) desk player air (ap script_with d.reads) (did d.rest d.told) aired tallied
+played_behind left source mid new text mux desk player air (Err (Read Failed)) told d came did taken aired tallied = played_taken left source mid new text mux desk player air told came taken aired tallied
+played_behind left source mid new text mux desk player air (Err OnAir) told d came did taken aired tallied =
+    played_cut (script_in text) mux (plain mux (ahead mid d.rest)) desk player air (did d.rest d.told).0 (ap script_with d.reads) (did d.rest d.told).1 aired tallied
+played_behind left source mid new text mux desk player air (Err NoMemory) told d came did taken aired tallied = tt
 
 -- ---- the run is over
 
@@ -222,66 +238,80 @@ tail_in text = tail_of (1 + length (text_lines text).0) (text_lines text).1
 text_sent : (text : List ℕ) (air : ReportTaken) → IsAired (script_in text).mux (whole_journal (script_in text)) air → IsSent (script_in text).mux (whole_journal (script_in text)) air
 text_sent text air is = whole_sent (text_lines text).0 (tail_in text) air is
 
-finished_whole : (text : List ℕ) (left : Known) (air report : ReportTaken) (desk : Option DeskState) (status : Status) → HasPlayed text left air desk None → FinishedBy None (entries_of desk) report status → Leaves text left air report status
-finished_whole text left air report desk Done played finished = record {
+-- its report is that of the journal
+report_is : (described : Option Mux) (journal : List Entry) (end : Option HeadEnd) → entries_of end ≡ journal → rates_of end ≡ rates_for described journal
+    → played_text end ≡ report_text described journal
+report_is described journal end entries rates =
+    ap (λ (l : List Entry). journal_text l ++ rates_of end) entries ∙ ap (λ (l : List ℕ). journal_text journal ++ l) rates
+
+all_report : (script : Script) (stop : Stop) (air : ReportTaken) (end : Option HeadEnd) → HasPlayedAll script stop air end → played_text end ≡ whole_report script
+all_report script stop air end played = report_is script.mux (whole_journal script) end played.journal played.rates
+
+finished_whole : (text : List ℕ) (left : Known) (air report : ReportTaken) (end : Option HeadEnd) (status : Status) → HasPlayed text left air end None → FinishedBy None (played_text end) report status
+    → Leaves text left air report status
+finished_whole text left air report end Done played finished = record {
   ended = played.stopped;
   air_is = played.air_is;
   sent = text_sent text air played.air_is;
-  report_is = subst (λ (l : List Entry). Appends report.old report.new (journal_text l)) played.journal finished;
+  report_is = subst (λ (l : List ℕ). Appends report.old report.new l) (all_report (script_in text) Ended air end played) finished;
 }
-finished_whole text left air report desk (WriteFault Report) played finished = record {
+finished_whole text left air report end (WriteFault Report) played finished = record {
   ended = played.stopped;
   air_is = played.air_is;
   sent = text_sent text air played.air_is;
-  report_is = subst (λ (l : List Entry). AppendsFront report.old report.new (journal_text l)) played.journal finished.0;
+  report_is = subst (λ (l : List ℕ). AppendsFront report.old report.new l) (all_report (script_in text) Ended air end played) finished.0;
 }
-finished_whole text left air report desk (WriteFault Air) played finished = absurd finished
-finished_whole text left air report desk other played finished = absurd finished
+finished_whole text left air report end (WriteFault Air) played finished = absurd finished
+finished_whole text left air report end other played finished = absurd finished
 
-reported_of : (report : ReportTaken) (old new : List Entry) (text : List ℕ) → old ≡ new → Reported report (journal_text old ++ text) → Reported report (journal_text new ++ text)
-reported_of report old new text e r = subst (λ (l : List Entry). Reported report (journal_text l ++ text)) e r
+reported_of : (report : ReportTaken) (old new text : List ℕ) → old ≡ new → Reported report (old ++ text) → Reported report (new ++ text)
+reported_of report old new text e r = subst (λ (l : List ℕ). Reported report (l ++ text)) e r
 
-finished_all : (script : Script) (stop : Stop) (fault : List ℕ) (air report : ReportTaken) (desk : Option DeskState) → (IsAired script.mux (whole_journal script) air → IsSent script.mux (whole_journal script) air) → HasPlayedAll script stop air desk
-    → Reported report (journal_text (entries_of desk) ++ fault_line fault) → LeavesAll script stop fault air report
-finished_all script stop fault air report desk sent played reported =
-    record { stopped = played.stopped; air_is = played.air_is; sent = sent played.air_is; report_is = reported_of report _ _ (fault_line fault) played.journal reported }
+finished_all : (script : Script) (stop : Stop) (fault : List ℕ) (air report : ReportTaken) (end : Option HeadEnd) → (IsAired script.mux (whole_journal script) air → IsSent script.mux (whole_journal script) air)
+    → HasPlayedAll script stop air end → Reported report (played_text end ++ fault_line fault) → LeavesAll script stop fault air report
+finished_all script stop fault air report end sent played reported = record {
+  stopped = played.stopped;
+  air_is = played.air_is;
+  sent = sent played.air_is;
+  report_is = reported_of report _ _ (fault_line fault) (all_report script stop air end played) reported;
+}
 
-finished_text : (text : List ℕ) (stop : Stop) (fault : List ℕ) (air report : ReportTaken) (desk : Option DeskState) → HasPlayedAll (script_in text) stop air desk → Reported report (journal_text (entries_of desk) ++ fault_line fault)
-    → LeavesAll (script_in text) stop fault air report
-finished_text text stop fault air report desk played reported = finished_all (script_in text) stop fault air report desk (text_sent text air) played reported
+finished_text : (text : List ℕ) (stop : Stop) (fault : List ℕ) (air report : ReportTaken) (end : Option HeadEnd) → HasPlayedAll (script_in text) stop air end
+    → Reported report (played_text end ++ fault_line fault) → LeavesAll (script_in text) stop fault air report
+finished_text text stop fault air report end played reported = finished_all (script_in text) stop fault air report end (text_sent text air) played reported
 
-finished_stop : (stop : PlayStop) (text : List ℕ) (left : Known) (air report : ReportTaken) (desk : Option DeskState) → HasPlayed text left air desk (Some stop)
-    → Reported report (journal_text (entries_of desk) ++ fault_line (stop_text stop)) → Leaves text left air report (status_for stop)
-finished_stop (Undescribed fault) text left air report desk played reported = finished_text text (NoMux fault) (stop_text (Undescribed fault)) air report desk played reported
-finished_stop (Refused n) text left air report desk played reported = finished_text text (NoCommand n) (stop_text (Refused n)) air report desk played reported
-finished_stop (Differs n kept found) text left air report desk played reported = finished_text text (Disagreed n kept found) (stop_text (Differs n kept found)) air report desk played reported
-finished_stop (Read Overlong) text left air report desk played reported = finished_text text TooLong (stop_text (Read Overlong)) air report desk played reported
-finished_stop (Read Failed) text left air report desk played reported = record {
+finished_stop : (stop : PlayStop) (text : List ℕ) (left : Known) (air report : ReportTaken) (end : Option HeadEnd) → HasPlayed text left air end (Some stop)
+    → Reported report (played_text end ++ fault_line (stop_text stop)) → Leaves text left air report (status_for stop)
+finished_stop (Undescribed fault) text left air report end played reported = finished_text text (NoMux fault) (stop_text (Undescribed fault)) air report end played reported
+finished_stop (Refused n) text left air report end played reported = finished_text text (NoCommand n) (stop_text (Refused n)) air report end played reported
+finished_stop (Differs n kept found) text left air report end played reported = finished_text text (Disagreed n kept found) (stop_text (Differs n kept found)) air report end played reported
+finished_stop (Read Overlong) text left air report end played reported = finished_text text TooLong (stop_text (Read Overlong)) air report end played reported
+finished_stop (Read Failed) text left air report end played reported = record {
   taken = played.taken;
   behind = played.behind;
   text_is = played.text_is;
   left_is = played.left_is;
-  leaves = finished_all (script_taken played.taken) Unread (stop_text (Read Failed)) air report desk (whole_sent (shown_whole played.taken) Breaks air) played.all reported;
+  leaves = finished_all (script_taken played.taken) Unread (stop_text (Read Failed)) air report end (whole_sent (shown_whole played.taken) Breaks air) played.all reported;
 }
-finished_stop OnAir text left air report desk played reported = record {
-  k = played.0;
-  air_is = played.1;
-  sent = cut_sent (text_lines text).0 (tail_in text) air played.0 played.1;
-  report_is = reported_of report _ _ (fault_line (stop_text OnAir)) played.2 reported;
+finished_stop OnAir text left air report end played reported = record {
+  k = played.k;
+  air_is = played.air_is;
+  sent = cut_sent (text_lines text).0 (tail_in text) air played.k played.air_is;
+  report_is = reported_of report _ _ (fault_line (stop_text OnAir)) (report_is (script_in text).mux (first_journal played.k (script_in text)) end played.journal played.rates) reported;
 }
-finished_stop NoMemory text left air report desk played reported = tt
+finished_stop NoMemory text left air report end played reported = tt
 
-pub leaves : (stop : Option PlayStop) (text : List ℕ) (left : Known) (air report : ReportTaken) (desk : Option DeskState) (status : Status) → HasPlayed text left air desk stop → Finished stop (entries_of desk) report status
-    → Leaves text left air report status
-leaves stop text left air report desk status played (inl memory) = subst (λ (s : Status). Leaves text left air report s) (sym memory) tt
-leaves None text left air report desk status played (inr finished) = finished_whole text left air report desk status played finished
-leaves (Some stop) text left air report desk status played (inr finished) = subst (λ (s : Status). Leaves text left air report s) (sym finished.0) (finished_stop stop text left air report desk played finished.1)
+pub leaves : (stop : Option PlayStop) (text : List ℕ) (left : Known) (air report : ReportTaken) (end : Option HeadEnd) (status : Status) → HasPlayed text left air end stop
+    → Finished stop (played_text end) report status → Leaves text left air report status
+leaves stop text left air report end status played (inl memory) = subst (λ (s : Status). Leaves text left air report s) (sym memory) tt
+leaves None text left air report end status played (inr finished) = finished_whole text left air report end status played finished
+leaves (Some stop) text left air report end status played (inr finished) = subst (λ (s : Status). Leaves text left air report s) (sym finished.0) (finished_stop stop text left air report end played finished.1)
 
 -- the same of an input that is the source which the reader gave back
-pub leaves_input : {S : Type 0} (left_of : S → Known) (source input : S) (stop : Option PlayStop) (text : List ℕ) (air report : ReportTaken) (desk : Option DeskState) (status : Status) → input ≡ source
-    → HasPlayed text (left_of source) air desk stop → Finished stop (entries_of desk) report status → Leaves text (left_of input) air report status
-leaves_input {S = S} left_of source input stop text air report desk status e played finished =
-    subst (λ (s : S). Leaves text (left_of s) air report status) (sym e) (leaves stop text (left_of source) air report desk status played finished)
+pub leaves_input : {S : Type 0} (left_of : S → Known) (source input : S) (stop : Option PlayStop) (text : List ℕ) (air report : ReportTaken) (end : Option HeadEnd) (status : Status) → input ≡ source
+    → HasPlayed text (left_of source) air end stop → Finished stop (played_text end) report status → Leaves text (left_of input) air report status
+leaves_input {S = S} left_of source input stop text air report end status e played finished =
+    subst (λ (s : S). Leaves text (left_of s) air report status) (sym e) (leaves stop text (left_of source) air report end status played finished)
 
 -- no cycle is made at each rate
 none_made : (rate : Option ℕ) (before : List Aired) → AreMadeAt rate before []

@@ -18,6 +18,7 @@ use Rattle.epg_report.specs.declared.status.Status.TheVariants.{Done, BadScript,
 use Rattle.epg_report.specs.declared.status.Origin.TheVariants.{Input}
 use Rattle.epg_report.specs.declared.status.Outlet.TheVariants.{Air, Report}
 use Rattle.epg_play.specs.Script.{Script, Stop, Ended, NoMux, NoCommand, Disagreed, TooLong, Unread, script_in, script_taken}
+use Rattle.epg_report.specs.Rates.{rate_lines}
 use Rattle.epg_report.specs.Texts.{fault_line, fault_text}
 use Rattle.epg_report.specs.Told.{ReportTaken, Reported, SourceGave, gave, told}
 
@@ -33,6 +34,26 @@ whole_journal script = journal_for script.mux script.commands
 
 abbrev pub first_journal : ℕ → Script → List Entry
 first_journal k script = journal_for script.mux (take k script.commands)
+
+-- ---- reports of a script
+
+-- the line on the bit rate, where a multiplex is described that has one
+abbrev pub rates_for : Option Mux → List Entry → List ℕ
+rates_for None journal = []
+rates_for (Some mux) journal = rate_lines mux journal
+
+-- the report of a journal: its text, and after that the line on the bit rate
+abbrev pub report_text : Option Mux → List Entry → List ℕ
+report_text described journal = journal_text journal ++ rates_for described journal
+
+-- that of all commands of a script, and of its first k
+abbrev pub whole_report : Script → List ℕ
+whole_report script = report_text script.mux (whole_journal script)
+
+abbrev pub first_report : ℕ → Script → List ℕ
+first_report k script = report_text script.mux (first_journal k script)
+
+-- ---- airs of a script
 
 -- an air of this journal was appended; nothing, where no multiplex is described
 abbrev pub IsAired : Option Mux → List Entry → ReportTaken → Type 0
@@ -77,19 +98,20 @@ ending_text (Some stop) = fault_line (stop_text stop)
 
 -- ---- what is left
 
--- with Done: the script is whole, the air is that of its journal, and the report is the journal's text
+-- with Done: the script is whole, and the air and the report are those of its journal
 pub record LeavesDone (script : Script) (air report : ReportTaken) : Type 0 where
   pub ended : script.stop ≡ Ended
   pub air_is : IsAired script.mux (whole_journal script) air
   pub sent : IsSent script.mux (whole_journal script) air
-  pub report_is : Appends report.old report.new (journal_text (whole_journal script))
+  pub report_is : Appends report.old report.new (whole_report script)
 
--- with a fault behind all commands of the script: the air is that of their journal, and the report is the journal and the fault line
+-- with a fault after all commands of the script: the air is that of their journal, and the report
+-- is the journal's and the fault line
 pub record LeavesAll (script : Script) (stop : Stop) (fault : List ℕ) (air report : ReportTaken) : Type 0 where
   pub stopped : script.stop ≡ stop
   pub air_is : IsAired script.mux (whole_journal script) air
   pub sent : IsSent script.mux (whole_journal script) air
-  pub report_is : Reported report (journal_text (whole_journal script) ++ fault_line fault)
+  pub report_is : Reported report (whole_report script ++ fault_line fault)
 
 -- With a failed read: these bytes were taken from the input, and the others are left. The commands are exactly those whose lines all
 -- ended in the bytes taken.
@@ -105,14 +127,14 @@ pub record LeavesCut (script : Script) (fault : List ℕ) (air report : ReportTa
   pub k : ℕ
   pub air_is : IsAiredFront script.mux (first_journal k script) air
   pub sent : IsSent script.mux (first_journal k script) air
-  pub report_is : Reported report (journal_text (first_journal k script) ++ fault_line fault)
+  pub report_is : Reported report (first_report k script ++ fault_line fault)
 
--- with a fault in the report of a whole script: a proper front of the journal's text
+-- with a fault in the report of a whole script: a proper front of the journal's report
 pub record LeavesUnreported (script : Script) (air report : ReportTaken) : Type 0 where
   pub ended : script.stop ≡ Ended
   pub air_is : IsAired script.mux (whole_journal script) air
   pub sent : IsSent script.mux (whole_journal script) air
-  pub report_is : AppendsFront report.old report.new (journal_text (whole_journal script))
+  pub report_is : AppendsFront report.old report.new (whole_report script)
 
 -- What a run of `play` leaves with each status, of a text, and of what is left of it. No other status comes.
 abbrev pub Leaves : List ℕ → Option (List ℕ) → ReportTaken → ReportTaken → Status → Type 0

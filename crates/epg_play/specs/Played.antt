@@ -21,6 +21,7 @@ use Rattle.script_lines.specs.declared.script.ScriptItem.{ScriptItem}
 use Rattle.script_lines.specs.Script.{Asked, asked_by, items_ahead, kept_first}
 use Rattle.checkpoint_laws.specs.Going.{all_raised}
 use Rattle.air_sending.specs.OnAir.{HasAired, HasAiredFront}
+use Rattle.air_sending.specs.Tallied.{HasTallied}
 use Rattle.air_sending.specs.declared.send.SendStop.{SendStop}
 use Rattle.air_sending.specs.declared.send.SendStop.TheVariants as send
 use Rattle.epg_play.specs.declared.stop.PlayStop.{PlayStop}
@@ -43,6 +44,11 @@ AiredTo earlier desk player before now (Err (Undescribed fault)) = HasAired earl
 AiredTo earlier desk player before now (Err (Refused n)) = HasAired earlier desk player before now
 AiredTo earlier desk player before now (Err (Disagrees n kept found)) = HasAired earlier desk player before now
 AiredTo earlier desk player before now (Err (Read stop)) = HasAired earlier desk player before now
+
+-- the player's tally is that of the desk's journal, once a script is played as far as this
+abbrev pub TalliedTo : {T : Type 0} → DeskState → Sending → Result T PlayStop → Type 0
+TalliedTo desk player (Err Memory) = Unit {0}
+TalliedTo desk player result = HasTallied desk player
 
 -- a stop by a failed write has its cause, and one by a failed read
 abbrev pub HasAirCause : {T : Type 0} → ℕ → ℕ → Result T PlayStop → Type 0

@@ -1,22 +1,32 @@
 // How a run ends: its report and its status.
 ghost use Rattle.std.specs.Prelude.{◌≡◌, ◌++◌, IfOk, OnOk};
-ghost use Rattle.journal_text.specs.Entries.{journal_text};
 ghost use Rattle.epg_play.specs.Played.{IsStopInWindow};
 ghost use Rattle.epg_report.specs.Texts.{fault_line};
 ghost use Rattle.epg_play.specs.Leaves.{stop_text, status_for, ending_text};
-ghost use Rattle.epg_play.specs.Ending.{CanBeTold, entries_of, Finished};
+ghost use Rattle.epg_play.specs.Ending.{CanBeTold, Finished, played_text};
 ghost use Rattle.epg_report.specs.Told.{told};
 
 use crate::stop::PlayStop;
+use cycle_player::Tally;
 use desk_core::Desk;
-use epg_report::{Origin, Outlet, Status, journal_of, out_of_memory, put_fault_line};
+use epg_report::{
+    Origin, Outlet, Status, journal_of, out_of_memory, put_fault_line, put_rate_line,
+};
 use si_causes::{ReadStop, Sink, write_all};
 use std::alloc::{AllocError, Global};
 
-/// What was played: the desk, where its multiplex was read, and why the script was not played on.
+/// A head-end after a script: its desk, and the tally of the cycles that its player sent.
+#[derive(Drop)]
+pub(crate) struct HeadEnd {
+    pub(crate) desk: Desk,
+    pub(crate) tally: Tally,
+}
+
+/// What was played: the head-end, where its multiplex was read, and why the script was not played
+/// on.
 #[derive(Drop)]
 pub(crate) struct Played {
-    pub(crate) desk: Option<Desk>,
+    pub(crate) end: Option<HeadEnd>,
     pub(crate) stop: Option<PlayStop>,
 }
 
@@ -43,15 +53,25 @@ fn put_stop(alloc: Global, out: &mut Vec<u8>, stop: PlayStop) -> Result<(), Allo
     put_fault_line(alloc, out, status_of(stop))
 }
 
-// The whole report: the journal, and the fault line where there is one.
+// What was played: the journal, and the line on the bit rate where there is one.
+fn played_of(alloc: Global, played: &Played) -> Result<Vec<u8>, AllocError>
+    ensures { IfOk result (λ text. text.items ≡ played_text played.now.end) }
+{
+    let Some(end) = &played.end else {
+        return Ok(Vec::new(alloc));
+    };
+    let mut text = journal_of(alloc, &end.desk)?;
+    put_rate_line(alloc, &mut text, end.desk.mux().rate, end.tally)?;
+    Ok(text)
+}
+
+// The whole report: what was played, and the fault line where there is one.
 fn report_of(alloc: Global, played: &Played) -> Result<Vec<u8>, AllocError>
     requires { CanBeTold played.now.stop }
-    ensures { IfOk result (λ text. text.items ≡ journal_text (entries_of played.now.desk) ++ ending_text played.now.stop) }
+    ensures { IfOk result (λ text. text.items
+        ≡ played_text played.now.end ++ ending_text played.now.stop) }
 {
-    let mut text = match &played.desk {
-        Some(desk) => journal_of(alloc, desk)?,
-        None => Vec::new(alloc),
-    };
+    let mut text = played_of(alloc, played)?;
     if let Some(stop) = played.stop {
         put_stop(alloc, &mut text, stop)?;
     }
@@ -61,7 +81,8 @@ fn report_of(alloc: Global, played: &Played) -> Result<Vec<u8>, AllocError>
 /// Reports what was played, and says how the run ends. A report that fails changes the status of a whole script alone.
 pub(crate) fn finish<R: Sink>(alloc: Global, played: &Played, report: &mut R) -> Status
     requires { CanBeTold played.now.stop }
-    ensures finished { Finished played.now.stop (entries_of played.now.desk) (told R.written R.faults report.old report.new) result }
+    ensures finished { Finished played.now.stop (played_text played.now.end)
+        (told R.written R.faults report.old report.new) result }
 {
     let Ok(text) = report_of(alloc, played) else {
         return out_of_memory(report);

@@ -2,7 +2,7 @@
 ghost use Rattle.epg_play.specs.Again.{JournalsPlayAgain};
 ghost use Rattle.epg_play.specs.Hearing.{PlayIsHeard};
 ghost use Rattle.epg_play.specs.Outcomes.{OutcomesAreCompared};
-ghost use Rattle.epg_play.specs.Reports.{ReportsTellJournals};
+ghost use Rattle.epg_play.specs.Reports.{PlainReportsAreJournals, ReportsTellJournals};
 
 /// What `play` sends, `listen` hears: where an air of a journal of a script's first commands, or of all, as `play` leaves one, is the
 /// recording, each piece of it is a packet, and of each key just its version changes along the airing list are reported, in order.
@@ -17,10 +17,16 @@ pub fn journals_play_again()
     ensures { JournalsPlayAgain }
 {}
 
-/// A report tells its journal: reports that are one have one journal and one fault line, if any, where the edits of both journals were
-/// read from lines. So no fault line goes on with a journal.
+/// A report tells its journal: reports that are one have one journal, one line on the bit rate and
+/// one fault line, if any, whatever their multiplexes, where the edits of both journals were read
+/// from lines. So neither line goes on with a journal.
 pub fn reports_tell_journals()
     ensures { ReportsTellJournals }
+{}
+
+/// A report without a bit rate is the text of its journal.
+pub fn plain_reports_are_journals()
+    ensures { PlainReportsAreJournals }
 {}
 
 /// Outcomes are compared as values: a kept outcome agrees exactly where it is the desk's.

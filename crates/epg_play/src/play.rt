@@ -5,8 +5,9 @@ ghost use Rattle.si_causes.specs.Reading.{text_left};
 ghost use Rattle.input_lines.specs.Ahead.{ahead};
 ghost use Rattle.air_model.specs.Air.{Aired};
 ghost use Rattle.desk_core.specs.Journal.{Legal};
-ghost use Rattle.air_sending.specs.OnAir.{HasAired};
-ghost use Rattle.epg_play.specs.Played.{AiredTo, HasAirCause, HasReadCause, IsBehindMux, IsStopInWindow, RestDid, RestTaken, course, send_stop};
+ghost use Rattle.air_sending.specs.OnAir.{HasAired, IsPlayerOf};
+ghost use Rattle.air_sending.specs.Tallied.{HasTallied};
+ghost use Rattle.epg_play.specs.Played.{AiredTo, HasAirCause, HasReadCause, IsBehindMux, IsStopInWindow, RestDid, RestTaken, TalliedTo, course, send_stop};
 
 use crate::item::{ItemDone, do_item};
 use crate::stop::PlayStop;
@@ -43,6 +44,8 @@ pub fn play_rest<S: Source, A: Sink>(
     ensures taken { RestTaken shift S.left lines.old lines.new desk.old desk.new result }
     ensures aired { (earlier : List Aired) (before : Option (List ℕ)) → HasAired earlier desk.old player.old before (A.written air.old)
         → AiredTo earlier desk.new player.new before (A.written air.new) result }
+    ensures tallied { IsPlayerOf desk.old.mux player.old → HasTallied desk.old player.old
+        → TalliedTo desk.new player.new result }
     ensures ended { OnOk result (player.new.left ≡ []) }
     ensures window { IfErr result IsStopInWindow }
     ensures behind { IfErr result IsBehindMux }

@@ -6,7 +6,7 @@ ghost use Rattle.epg_play.specs.Ending.{HasPlayed, CanBeTold, mux_stop, HasStopC
 ghost use Rattle.epg_play.specs.Leaves.{PlayRan};
 ghost use Rattle.epg_report.specs.Told.{told};
 
-use crate::ending::{Played, finish};
+use crate::ending::{HeadEnd, Played, finish};
 use crate::play::play_rest;
 use crate::stop::PlayStop;
 use air_sending::open_player;
@@ -32,7 +32,7 @@ fn play<S: Source, A: Sink>(alloc: Global, lines: &mut LineReader<S>, air: &mut 
     requires unread { lines.old ≡ fresh lines.old.source }
     ensures played { (text : List ℕ) → S.left lines.old.source ≡ Some text
         → HasPlayed text (S.left lines.new.source) (told A.written A.faults air.old air.new)
-        result.desk result.stop }
+        result.end result.stop }
     ensures window { CanBeTold result.stop }
     ensures end { result.stop ≡ None → IsAtEnd (S.left lines.new.source) }
     ensures read_cause { HasStopCause (S.faults lines.old.source) (S.faults lines.new.source)
@@ -44,32 +44,37 @@ fn play<S: Source, A: Sink>(alloc: Global, lines: &mut LineReader<S>, air: &mut 
         Ok(mux) => mux,
         Err(stop) => {
             return Played {
-                desk: None,
+                end: None,
                 stop: Some(mux_stop_of(stop)),
             };
         }
     };
     let Ok(mut player) = open_player(alloc, &mux) else {
         return Played {
-            desk: None,
+            end: None,
             stop: Some(PlayStop::Memory),
         };
     };
     let Ok(mut desk) = Desk::open(alloc, mux) else {
         return Played {
-            desk: None,
+            end: None,
             stop: Some(PlayStop::Memory),
         };
     };
     let stop = play_rest(alloc, lines, &mut desk, &mut player, air, 0).err();
+    let tally = player.tally();
     Played {
-        desk: Some(desk),
+        end: Some(HeadEnd { desk, tally }),
         stop,
     }
 }
 
-/// Plays the script of the input: reads its lines and does them one after the other, sends one cycle to the air after each swap,
-/// and reports the journal of all steps done, with a line that names the fault where there is one.
+/// Plays the script of the input: reads its lines and does them one after the other, sends one
+/// cycle to the air after each swap, and reports the journal of all steps done. After it, where the
+/// description has a bit rate, one line says whether the cycles repeat in time what is frequent:
+/// `rate,BITS,kept`, or `rate,BITS,short,CYCLES,NEEDED` with how many do not and the least rate
+/// that would have done, or `none`. A cycle that was cut off counts too. The last line names the
+/// fault, where there is one.
 pub fn run_play<S: Source, A: Sink, R: Sink>(
     alloc: Global,
     input: &mut S,

@@ -14,6 +14,8 @@ use Rattle.journal_model.specs.declared.step.Entry.{Entry}
 use Rattle.desk_core.specs.Journal.{Legal, LegalAfter, journal_after, outcome_of, publishes}
 use Rattle.desk_core.proofs.JournalFacts.{journal_legal}
 use Rattle.cycle_player.specs.Airs.{AreMadeAt}
+use Rattle.cycle_player.specs.Tallies.{tally_of}
+use Rattle.timed_player.specs.Tally.{no_cycles}
 use Rattle.journal_air.specs.Air.{airing_at, airings}
 use Rattle.checkpoint_laws.specs.Steps.{checkpoint_steps, folded, shift_of}
 use Rattle.checkpoint_laws.specs.Going.{is_taken}
@@ -21,6 +23,7 @@ use Rattle.checkpoint_laws.proofs.GoFacts.{journals_alike}
 use Rattle.checkpoint_laws.proofs.FoldFacts.{goes_on, steps_taken}
 use Rattle.checkpoint_laws.proofs.AirFacts.{air_goes_on, no_swaps}
 use Rattle.air_sending.specs.OnAir.{HasAired, IsPlayerOf}
+use Rattle.air_sending.specs.Tallied.{HasTallied}
 use Rattle.desk_checkpoint.specs.declared.start.Start.{Start}
 use Rattle.epg_resume.proofs.GoingOn.{IsBase}
 
@@ -80,3 +83,13 @@ begun_aired earlier start w none end player_of = (
   record { at_end = subst (λ (l : List Aired). AtEnd l start.player) (sym (append-nil earlier)) end; airings_are = sym none; made = none_made start.desk.mux.rate earlier; player_of = player_of },
   Appends-nothing w,
 )
+
+none_tallied : (rate : Option ℕ) → no_cycles ≡ tally_of rate []
+none_tallied None = refl
+none_tallied (Some rate) = refl
+
+-- and its player, which has counted no cycle, has the tally of that
+pub begun_tallied : (start : Start) → airings start.desk.mux start.desk.entries ≡ []
+    → start.player.tally ≡ no_cycles → HasTallied start.desk start.player
+begun_tallied start none tally =
+    tally ∙ none_tallied start.desk.mux.rate ∙ ap (tally_of start.desk.mux.rate) (sym none)

@@ -2,7 +2,7 @@
 use Rattle.std.proofs.Common.{◌≡◌, ◌+◌, ◌<◌, ◌^◌, ℕ, false, List, [], ◌∷◌, ◌++◌, length, sym, ap, ◌∙◌, subst, inl, inr, ◌⊎◌}
 use Rattle.std.specs.Prelude.{Option, None, drop}
 use Rattle.std.specs.List.{AllByRecursion}
-use Rattle.std.proofs.lemmas.List.{map-append}
+use Rattle.std.proofs.lemmas.List.{append_cancel_left, map-append}
 use Rattle.std.proofs.Math.Seq.{drop-append_seam}
 use Rattle.si_lists.proofs.Lists.{all_append, all_drop, all_to_map, two_fronts}
 use Rattle.input_lines.specs.Ahead.{Ahead}
@@ -13,6 +13,7 @@ use Rattle.air_model.specs.Air.{Aired, airings_of}
 use Rattle.air_paced.specs.Clock.{Clock}
 use Rattle.cycle_player.specs.Airs.{AreMadeAt, IsAirAt}
 use Rattle.cycle_player.specs.Sending.{AtEnd, Sending}
+use Rattle.cycle_player.proofs.Airs.{airings_are as cycle_airings}
 use Rattle.cycle_player.proofs.Ends.{end_air}
 use Rattle.mux_model.specs.declared.mux.Mux.{Mux}
 use Rattle.mux_model.specs.Sound.{IsSound}
@@ -106,19 +107,22 @@ module _ (mux : Mux) (shift : ℕ) (journal short : List Entry) (base : IsBase m
       subst (λ (d : DeskState). AreMadeAt d.mux.rate earlier cycles) did sent.made
 
   pub air_on : (earlier : List Aired) (end : DeskState) (player : Sending) (took : ReportTaken) (commands : List Command) → airings_of earlier ≡ airings mux journal
-      → end ≡ desk_after (desk_with mux short) commands → HasAired earlier end player took.old took.new → IsAsRead mux (journal ++ more commands) → AirOn mux journal (more commands) earlier took
+      → end ≡ desk_after (desk_with mux short) commands → HasAired earlier end player took.old took.new → IsAsRead mux (journal ++ more commands)
+      → (on : AirOn mux journal (more commands) earlier took) × (airings_of on.cycles ≡ airings end.mux end.entries)
   air_on earlier end player took commands before did (cycles, sent, bytes) read =
       let whole = journal ++ more commands in
       let is = is_air_on earlier cycles end player commands before did sent in
-      let made = made_on earlier cycles end player commands did sent in
-      record {
-        cycles = cycles;
-        is_air = is;
-        made = made;
-        bytes = bytes;
-        heard = airs_heard mux whole (earlier ++ cycles) read (legal_on commands) is;
-        sent = whole_sent_behind mux whole earlier read (legal_on commands) cycles is made;
-      }
+      let made = made_on earlier cycles end player commands did sent in (
+        record {
+          cycles = cycles;
+          is_air = is;
+          made = made;
+          bytes = bytes;
+          heard = airs_heard mux whole (earlier ++ cycles) read (legal_on commands) is;
+          sent = whole_sent_behind mux whole earlier read (legal_on commands) cycles is made;
+        },
+        sent.airings_are,
+      )
 
   -- the last entry of a journal that goes on is among the new ones, where it is a swap
   last_new : (front : List Entry) (last : Entry) (entries : List Entry) → short ++ entries ≡ front ++ last ∷ [] → last.step ≡ Swap → (own : List Entry) × (entries ≡ own ++ last ∷ [])
@@ -130,8 +134,18 @@ module _ (mux : Mux) (shift : ℕ) (journal short : List Entry) (base : IsBase m
       by (inl (x ∷ [], f, s)) = (let same : last ≡ x = cc in absurd (base.no_swap front last (f ∙ ap (λ (y : Entry). front ++ y ∷ []) (sym same)) swap))
       by (inl (x ∷ y ∷ k, f, s)) = (let none : [] ≡ y ∷ (k ++ entries) = cc in cc none)
 
+  -- the airings of cycles after earlier ones
+  airings_cut : (rate : Option ℕ) (earlier cycles : List Aired) (airings : List AiredTables)
+      → IsAirAt rate (airings_of earlier ++ airings) (earlier ++ cycles)
+      → airings_of cycles ≡ airings
+  airings_cut rate earlier cycles airings is =
+      append_cancel_left (airings_of earlier) (airings_of cycles) airings
+      (sym (map-append (λ (x : Aired). x.airing) earlier cycles)
+      ∙ cycle_airings rate (airings_of earlier ++ airings) (earlier ++ cycles) is)
+
   pub cut_on : (earlier : List Aired) (end : DeskState) (took : ReportTaken) (commands : List Command) → airings_of earlier ≡ airings mux journal
-      → end ≡ desk_after (desk_with mux short) commands → HasAiredFront earlier end took.old took.new → IsAsRead mux (journal ++ more commands) → CutAirOn mux journal (more commands) earlier took
+      → end ≡ desk_after (desk_with mux short) commands → HasAiredFront earlier end took.old took.new → IsAsRead mux (journal ++ more commands)
+      → (on : CutAirOn mux journal (more commands) earlier took) × (airings_of (on.whole ++ on.cut ∷ []) ≡ airings end.mux end.entries)
   cut_on earlier end took commands before did f read =
       let own = last_new f.front f.last (new commands) (sym (ap (λ (d : DeskState). d.entries) did) ∙ f.entries) f.is_swap in
       let rate : end.mux.rate ≡ mux.rate = ap (λ (d : DeskState). d.mux.rate) did in
@@ -139,21 +153,23 @@ module _ (mux : Mux) (shift : ℕ) (journal short : List Entry) (base : IsBase m
       let is = subst (λ (r : Option ℕ). IsAirAt r (airings mux (journal ++ more commands)) (earlier ++ (f.whole ++ f.cut ∷ []))) rate
       (subst (λ (l : List AiredTables). IsAirAt end.mux.rate l (earlier ++ (f.whole ++ f.cut ∷ [])))
       (ap (λ (l : List AiredTables). l ++ airings end.mux end.entries) before
-      ∙ ap (λ (d : DeskState). airings mux journal ++ airings d.mux d.entries) did ∙ sym (base.airs commands)) f.is_air) in
-      record {
-        front = all_raised shift own.0;
-        last = raised_entry shift f.last;
-        entries = sym (replies commands) ∙ ap (all_raised shift) own.1 ∙ map-append (raised_entry shift) own.0 (f.last ∷ []);
-        is_swap = f.is_swap;
-        whole = f.whole;
-        cut = f.cut;
-        is_air = is;
-        made = made;
-        taken = f.taken;
-        proper = f.proper;
-        bytes = f.bytes;
-        sent = cut_sent_behind mux (journal ++ more commands) earlier read (legal_on commands) f.whole f.cut f.taken is made f.proper;
-      }
+      ∙ ap (λ (d : DeskState). airings mux journal ++ airings d.mux d.entries) did ∙ sym (base.airs commands)) f.is_air) in (
+        record {
+          front = all_raised shift own.0;
+          last = raised_entry shift f.last;
+          entries = sym (replies commands) ∙ ap (all_raised shift) own.1 ∙ map-append (raised_entry shift) own.0 (f.last ∷ []);
+          is_swap = f.is_swap;
+          whole = f.whole;
+          cut = f.cut;
+          is_air = is;
+          made = made;
+          taken = f.taken;
+          proper = f.proper;
+          bytes = f.bytes;
+          sent = cut_sent_behind mux (journal ++ more commands) earlier read (legal_on commands) f.whole f.cut f.taken is made f.proper;
+        },
+        airings_cut end.mux.rate earlier (f.whole ++ f.cut ∷ []) (airings end.mux end.entries) f.is_air,
+      )
 
   -- ---- folded again
 

@@ -62,6 +62,7 @@ module _ {S : Type 0} (left : S → Option (List ℕ)) (source : S) (mid new : R
     within = on.within;
     did = subst (Did ls) (sym e) did;
     aired = on.aired;
+    tallied = on.tallied;
   }
 
   met_as : (r : Result (Unit {0}) PlayStop) → on.stop ≡ r → played.met ≡ met_by r

@@ -45,7 +45,7 @@ use Rattle.epg_resume.specs.Courses.{BeganAt, BegunFrom, CourseBehind, DeskDid, 
 use Rattle.epg_resume.specs.Behind.{LeavesBehind}
 use Rattle.epg_resume.specs.Leaves.{Begins, FoldRun, Nothing, NothingAsked, ResumeRun, Resumes, Tells, course_on}
 use Rattle.epg_resume.specs.Over.{LeavesBy, LeavesOver}
-use Rattle.epg_resume.proofs.Bases.{begun_aired, folded_base, new_base, nothing_folded}
+use Rattle.epg_resume.proofs.Bases.{begun_aired, begun_tallied, folded_base, new_base, nothing_folded}
 use Rattle.epg_resume.proofs.BehindFacts.{leaves_behind}
 use Rattle.epg_resume.proofs.OverFacts.{AreDescribed, over_done, over_same}
 use Rattle.epg_resume.proofs.ReadBack.{begun_from, read_as, same_checkpoint}
@@ -162,8 +162,10 @@ new_behind : (fold : Bool) (air report : ReportTaken) (played : Played) (mux : M
     → Finished fold played report status → LeavesBehind fold mux [] [] air report lines status
 new_behind fold air report played mux lines status is c finished =
     let run = new_run mux lines is in
+    let none : airings c.start.desk.mux c.start.desk.entries ≡ [] = ap (λ (d : DeskState). airings d.mux d.entries) c.begins.desk in
     leaves_behind fold mux 0 [] [] [] (new_base mux run.folds.sound) run air report lines (IsNew mux) played c c.begins.desk c.begins.shift
-    (begun_aired [] c.start air.old (ap (λ (d : DeskState). airings d.mux d.entries) c.begins.desk) c.begins.player (subst (λ (m : Mux). IsPlayerOf m c.start.player) (sym (ap (λ (d : DeskState). d.mux) c.begins.desk)) c.begins.player_of)) status finished
+    (begun_aired [] c.start air.old none c.begins.player (subst (λ (m : Mux). IsPlayerOf m c.start.player) (sym (ap (λ (d : DeskState). d.mux) c.begins.desk)) c.begins.player_of))
+    (begun_tallied c.start none c.begins.tally) status finished
 
 -- where neither the input nor a sink fails, the script decides
 fold_behind_decides : (mux : Mux) (lines : Ahead) (air report : ReportTaken) (status : Status) → LeavesBehind true mux [] [] air report lines status → IsOfPlay status
@@ -324,7 +326,7 @@ module _ (path : List ℕ) (files : Files) (fold : Bool) (air report : ReportTak
       let none : airings c.start.desk.mux c.start.desk.entries ≡ [] = ap (λ (d : DeskState). airings d.mux d.entries) from.desk ∙ nothing_folded mux journal sound legal in
       let player_of = subst (λ (m : Mux). IsPlayerOf m c.start.player) (sym c.begins.is.mux_is) c.begins.is.player_of in
       leaves_behind fold mux (shift_of (publishes journal)) journal (folded mux journal) earlier (folded_base mux journal sound legal) run air report lines (BeganAt path files mux) played c from.desk from.shift
-      (begun_aired earlier c.start air.old none from.player player_of) status finished
+      (begun_aired earlier c.start air.old none from.player player_of) (begun_tallied c.start none c.begins.is.tally) status finished
 
   resumed_behind : (opener : OpenerAsked) → Tries opener.tried_old opener.tried_new path → (played : Played) (status : Status) → BegunFrom path files air.old air.new played mux lines played.met
       → Finished fold played report status → Resumes path files fold opener air report mux lines status

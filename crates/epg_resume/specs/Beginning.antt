@@ -5,6 +5,7 @@ use Rattle.si_causes.specs.Opening.{Files}
 use Rattle.si_causes.specs.declared.stop.ReadStop.TheVariants.{Failed, TooLong as Overlong}
 use Rattle.input_lines.specs.Ahead.{NoCommand, Stop, TooLong}
 use Rattle.cycle_player.specs.Sending.{AtEnd}
+use Rattle.timed_player.specs.Tally.{no_cycles}
 use Rattle.mux_model.specs.declared.mux.Mux.{Mux}
 use Rattle.desk_core.specs.Desks.{fresh}
 use Rattle.air_sending.specs.OnAir.{IsPlayerOf}
@@ -26,6 +27,7 @@ pub record IsNew (mux : Mux) (start : Start) : Type 0 where
   pub shift : start.shift ≡ 0
   pub player : AtEnd [] start.player
   pub player_of : IsPlayerOf mux start.player
+  pub tally : start.player.tally ≡ no_cycles
 
 -- the status of a run whose checkpoint was not read
 abbrev pub check_status : CheckStop → Status

@@ -4,7 +4,7 @@ use Rattle.std.specs.Io.KnownBytes.{Appends}
 use Rattle.si_causes.specs.Causes.{AppendsFront}
 use Rattle.input_lines.specs.Ahead.{Ahead}
 use Rattle.ts_packets.specs.Bytes.{bytes_of_packet}
-use Rattle.air_model.specs.Air.{Aired, air, air_bytes}
+use Rattle.air_model.specs.Air.{Aired, air, air_bytes, airings_of}
 use Rattle.mux_model.specs.declared.mux.Mux.{Mux}
 use Rattle.journal_model.specs.declared.step.Step.TheVariants.{Swap}
 use Rattle.journal_model.specs.declared.step.Entry.{Entry}
@@ -20,12 +20,14 @@ use Rattle.epg_report.specs.declared.status.Status.{Status}
 use Rattle.epg_report.specs.declared.status.Status.TheVariants.{BadScript, Disagrees, Done, Memory, OpenFault, ReadFault, TooLong as PastLimit, WriteFault}
 use Rattle.epg_report.specs.declared.status.Origin.TheVariants.{Input, Recording}
 use Rattle.epg_report.specs.declared.status.Outlet.TheVariants.{Air, Report}
+use Rattle.epg_report.specs.Rates.{rate_line}
 use Rattle.epg_report.specs.Texts.{fault_lines}
 use Rattle.epg_report.specs.Told.{ReportTaken, Reported}
 use Rattle.epg_play.specs.Script.{Stop, Ended, NoCommand, Disagreed, TooLong, Unread, played_items}
 use Rattle.checkpoint_air.specs.Laws.{HasShortMoment}
 use Rattle.epg_resume.specs.Checkpointed.{HasRun, IsCheckpoint}
 use Rattle.cycle_player.specs.Airs.{AreMadeAt, IsAirAt}
+use Rattle.cycle_player.specs.Tallies.{tally_of}
 
 -- of the script ahead, what is played behind a journal, and why no more is
 abbrev pub played_behind : Mux → List Entry → Ahead → List Command × Stop
@@ -65,15 +67,24 @@ pub record CutAirOn (mux : Mux) (journal more : List Entry) (earlier : List Aire
   pub bytes : Appends air_took.old air_took.new (air_bytes whole ++ take taken (cycle_bytes cut))
   pub sent : IsSentBehind mux (journal ++ more) earlier (air_bytes whole ++ take taken (cycle_bytes cut))
 
--- the whole report of more entries, behind which these are all cycles: their text, or with `--fold` the checkpoint of all
-abbrev pub IsReport : Bool → Mux → List Entry → List Entry → List Aired → List ℕ → Type 0
-IsReport false mux journal more cycles text = text ≡ journal_text more
-IsReport true mux journal more cycles text = IsCheckpoint mux (journal ++ more) cycles text
+-- What is said of new entries and of the cycles that were begun for them: the text of the entries,
+-- and at a bit rate the line that says whether these cycles repeat in time what is frequent.
+abbrev pub new_text : Mux → List Entry → List Aired → List ℕ
+new_text mux more cycles =
+    journal_text more ++ rate_line mux.rate (tally_of mux.rate (airings_of cycles))
+
+-- The whole report of more entries, with these cycles after earlier ones: what is said of the new
+-- entries and cycles, or with `--fold` the checkpoint of all.
+abbrev pub IsReport :
+    Bool → Mux → List Entry → List Entry → List Aired → List Aired → List ℕ → Type 0
+IsReport false mux journal more earlier cycles text = text ≡ new_text mux more cycles
+IsReport true mux journal more earlier cycles text =
+    IsCheckpoint mux (journal ++ more) (earlier ++ cycles) text
 
 -- what the report has before the line of a fault
-abbrev pub before_fault : Bool → List Entry → List ℕ
-before_fault false more = journal_text more
-before_fault true more = []
+abbrev pub before_fault : Bool → Mux → List Entry → List Aired → List ℕ
+before_fault false mux more cycles = new_text mux more cycles
+before_fault true mux more cycles = []
 
 module _ (fold : Bool) (mux : Mux) (journal : List Entry) (earlier : List Aired) (air_took report : ReportTaken) where
   -- The script was played to its end: its journal goes on with the one before, its air with the one
@@ -83,7 +94,8 @@ module _ (fold : Bool) (mux : Mux) (journal : List Entry) (earlier : List Aired)
     pub ended : rest.1 ≡ Ended
     pub legal : Legal mux (journal ++ journal_after mux journal rest.0)
     pub air_is : AirOn mux journal (journal_after mux journal rest.0) earlier air_took
-    pub text_is : IsReport fold mux journal (journal_after mux journal rest.0) (earlier ++ air_is.cycles) text
+    pub text_is :
+        IsReport fold mux journal (journal_after mux journal rest.0) earlier air_is.cycles text
     pub goes_on : publishes (journal ++ journal_after mux journal rest.0) < 10 ^ 18
         → HasShortMoment mux.rate (earlier ++ air_is.cycles)
         → HasRun mux (journal ++ journal_after mux journal rest.0) (earlier ++ air_is.cycles)
@@ -93,14 +105,19 @@ module _ (fold : Bool) (mux : Mux) (journal : List Entry) (earlier : List Aired)
     pub stopped : rest.1 ≡ stop
     pub legal : Legal mux (journal ++ journal_after mux journal rest.0)
     pub air_is : AirOn mux journal (journal_after mux journal rest.0) earlier air_took
-    pub report_is : Reported report (before_fault fold (journal_after mux journal rest.0) ++ fault_lines status)
+    pub report_is : Reported report
+        (before_fault fold mux (journal_after mux journal rest.0) air_is.cycles
+        ++ fault_lines status)
 
-  -- the air failed in the cycle of the last of the first k commands
+  -- The air failed in the cycle of the last of the first k commands. The report counts it too.
   pub record CutOn (rest : List Command × Stop) : Type 0 where
     pub k : ℕ
     pub legal : Legal mux (journal ++ journal_after mux journal (take k rest.0))
     pub air_is : CutAirOn mux journal (journal_after mux journal (take k rest.0)) earlier air_took
-    pub report_is : Reported report (before_fault fold (journal_after mux journal (take k rest.0)) ++ fault_lines (WriteFault Air))
+    pub report_is : Reported report
+        (before_fault fold mux (journal_after mux journal (take k rest.0))
+        (air_is.whole ++ air_is.cut ∷ [])
+        ++ fault_lines (WriteFault Air))
 
   -- What a run leaves with each status, of what is ahead of it behind the description of its multiplex.
   abbrev pub LeavesBehind : Ahead → Status → Type 0

@@ -1,5 +1,5 @@
 -- What was played from a start on.
-use Rattle.std.specs.Prelude.{◌≡◌, ◌⊎◌, ◌<◌, ◌^◌, ℕ, List, [], drop, length, take, Bool, true, false, ◌&&◌, if◌then◌else◌, Option, Some, None, IfSome, Ok, Err, Result}
+use Rattle.std.specs.Prelude.{◌≡◌, ◌⊎◌, ◌<◌, ◌^◌, ℕ, List, [], ◌++◌, drop, length, take, Bool, true, false, ◌&&◌, if◌then◌else◌, Option, Some, None, IfSome, Ok, Err, Result}
 use Rattle.std.specs.List.{AllByRecursion}
 use Rattle.si_causes.specs.declared.stop.ReadStop.TheVariants.{Failed, TooLong as Overlong}
 use Rattle.si_causes.specs.Opening.{Files, Tries}
@@ -17,16 +17,18 @@ use Rattle.desk_checkpoint.specs.Raising.{CanBeRaised}
 use Rattle.desk_checkpoint.specs.Starts.{IsStart}
 use Rattle.desk_checkpoint.specs.HandedOver.{HandsOver}
 use Rattle.desk_checkpoint.specs.Text.{start_text}
-use Rattle.air_sending.specs.OnAir.{HasAired}
+use Rattle.air_sending.specs.OnAir.{HasAired, IsPlayerOf}
+use Rattle.air_sending.specs.Tallied.{HasTallied}
 use Rattle.epg_report.specs.declared.status.Status.{Status}
 use Rattle.epg_report.specs.declared.status.Status.TheVariants.{BadMux, Done, Memory, WriteFault}
 use Rattle.epg_report.specs.declared.status.Outlet.TheVariants.{Report}
 use Rattle.epg_report.specs.Ends.{ReportEnds}
+use Rattle.epg_report.specs.Rates.{rate_line}
 use Rattle.epg_report.specs.Told.{ReportTaken}
 use Rattle.epg_play.specs.declared.stop.PlayStop.{PlayStop}
 use Rattle.epg_play.specs.declared.stop.PlayStop.TheVariants.{NoMux as Undescribed, NoCommand as Refused, Disagrees as Differs, Read, Air as OnAir, Memory as NoMemory}
 use Rattle.epg_play.specs.Leaves.{IsOfPlay, status_for}
-use Rattle.epg_play.specs.Played.{AiredTo, RestDid, RestTaken, course, desk_after}
+use Rattle.epg_play.specs.Played.{AiredTo, RestDid, RestTaken, TalliedTo, course, desk_after}
 use Rattle.epg_play.specs.Script.{Stop, Ended, NoCommand, Disagreed, TooLong, Unread}
 use Rattle.epg_resume.specs.Over.{LeavesOver}
 use Rattle.epg_resume.specs.Beginning.{BeginsAt, IsNew, IsNotBegun, IsOfResume}
@@ -69,6 +71,8 @@ pub record CourseBehind (Begins : Start → Type 0) (before now : Option (List �
   pub did : DeskDid (course start.shift start.desk.mux start.desk.entries None lines) start.desk behind.end.desk stop
   pub aired : (earlier : List Aired) → HasAired earlier start.desk start.player before before
       → AiredTo earlier behind.end.desk behind.end.player before now stop
+  pub tallied : IsPlayerOf start.desk.mux start.player → HasTallied start.desk start.player
+      → TalliedTo behind.end.desk behind.end.player stop
 
 -- The script that a reader has still to give was played from this start on.
 pub record HasPlayedOn {S : Type 0} (left : S → Option (List ℕ)) (old new : Reading S) (start : Start) (before now : Option (List ℕ)) (played : Played) : Type 0 where
@@ -84,6 +88,8 @@ pub record HasPlayedOn {S : Type 0} (left : S → Option (List ℕ)) (old new : 
   pub taken : RestTaken start.shift left old new start.desk behind.end.desk stop
   pub aired : (earlier : List Aired) → HasAired earlier start.desk start.player before before
       → AiredTo earlier behind.end.desk behind.end.player before now stop
+  pub tallied : IsPlayerOf start.desk.mux start.player → HasTallied start.desk start.player
+      → TalliedTo behind.end.desk behind.end.player stop
 
 -- what was played of a text, from a head-end that did nothing yet
 abbrev pub PlayedNew : List ℕ → Option (List ℕ) → Option (List ℕ) → Option (List ℕ) → Played → Type 0
@@ -128,14 +134,19 @@ IsMetByResume status = IsOfResume status
 abbrev pub made_entries : Course → List Entry
 made_entries behind = all_raised behind.end.shift (drop behind.folded behind.end.desk.entries)
 
+-- what is said of them: their text, and the line on the bit rate of the cycles that were begun
+abbrev pub made_text : Course → List ℕ
+made_text behind =
+    journal_text (made_entries behind) ++ rate_line behind.end.desk.mux.rate behind.end.player.tally
+
 abbrev pub is_done : Status → Bool
 is_done Done = true
 is_done met = false
 
--- what the report has before the line of a fault: the text of the entries; or with `--fold` the checkpoint where there is no fault, and
--- else nothing
+-- What the report has before the line of a fault: the text of what was made; or with `--fold` the
+-- checkpoint where there is no fault, and else nothing.
 abbrev pub course_text : Bool → Course → Status → List ℕ
-course_text false behind met = journal_text (made_entries behind)
+course_text false behind met = made_text behind
 course_text true behind met = if is_done met then start_text behind.end.shift behind.end.desk behind.end.player else []
 
 abbrev pub played_text : Bool → Option Course → Status → List ℕ

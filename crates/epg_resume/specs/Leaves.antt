@@ -82,7 +82,8 @@ pub record Resumes (path : List ℕ) (files : Files) (fold : Bool) (opener : Ope
   pub asked : Tries opener.tried_old opener.tried_new path
   -- whatever the file holds
   pub begins : Begins path files (Nothing air report) mux lines status
-  -- where it holds the checkpoint of a journal and of an air of it, the run goes on behind them, and the checkpoint is never refused
+  -- Where it holds the checkpoint of a journal and of an air of it, the run goes on after them, and
+  -- the checkpoint is never refused. Without `--fold` the report is only of what is new.
   pub goes_on : (journal : List Entry) (earlier : List Aired) (bytes : List ℕ) → file_at path files ≡ Some bytes → length bytes ≤ checkpoint_limit
       → HasRun mux journal earlier → IsCheckpoint mux journal earlier bytes → LeavesBehind fold mux journal earlier air report lines status
 

@@ -3,8 +3,9 @@
 //! The promises are on [`run_folded`] (the record `FoldRun`) and [`run_resumed`] (`ResumeRun`).
 //! With `--fold` the report is the checkpoint of the run's journal and air. Such a checkpoint is
 //! never refused. With `--resume` the entries go on from that journal, and the packets make one air
-//! with those before. Folded again, the report is the checkpoint of both runs together. A file that
-//! is no checkpoint is refused before any step is done.
+//! with those before. At a bit rate the report has one more line, that of the new cycles
+//! (`new_text` of `specs/Behind.antt`). Folded again, the report is the checkpoint of both runs
+//! together. A file that is no checkpoint is refused before any step is done.
 //!
 //! Tested by whole runs: scripts cut after each swap, joined again and compared with the whole;
 //! refused checkpoints; files that cannot be opened or read.

@@ -6,11 +6,11 @@ ghost use Rattle.checkpoint_laws.specs.Going.{all_raised};
 ghost use Rattle.desk_checkpoint.specs.HandedOver.{HandsOver};
 ghost use Rattle.epg_report.specs.Texts.{CanBeSaid, fault_lines};
 ghost use Rattle.epg_report.specs.Told.{told};
-ghost use Rattle.epg_resume.specs.Courses.{CanBeWritten, Finished, HandedBy, IsCourse, course_text, is_done, made_entries, played_text};
+ghost use Rattle.epg_resume.specs.Courses.{CanBeWritten, Finished, HandedBy, IsCourse, course_text, is_done, made_entries, made_text, played_text};
 
 use crate::played::{Course, Played};
 use desk_checkpoint::{raise, write_checkpoint};
-use epg_report::{Status, ended, out_of_memory, put_fault_line};
+use epg_report::{Status, ended, out_of_memory, put_fault_line, put_rate_line};
 use journal_model::Entry;
 use journal_text::write_entry_with;
 use si_causes::{Sink, write_all};
@@ -47,6 +47,17 @@ fn put_journal(alloc: Global, out: &mut Vec<u8>, course: &Course) -> Result<(), 
     put_entries(alloc, out, made, course.end.shift)
 }
 
+// Appends what is said of what was made: the text of the entries, and the line on the bit rate,
+// where the multiplex has one.
+fn put_made(alloc: Global, out: &mut Vec<u8>, course: &Course) -> Result<(), AllocError>
+    requires { course.now.end.shift < 10 ^ 18 }
+    ensures { OnOk result (out.new.items ≡ out.old.items ++ made_text course.now) }
+{
+    put_journal(alloc, out, course)?;
+    let end = &course.end;
+    put_rate_line(alloc, out, end.desk.mux().rate, end.player.tally())
+}
+
 // Appends the checkpoint.
 fn put_checkpoint(alloc: Global, out: &mut Vec<u8>, course: &Course) -> Result<(), AllocError>
     requires shift { course.now.end.shift < 10 ^ 18 }
@@ -78,7 +89,7 @@ fn put_course(
     ensures handed { OnOk result (HandedBy fold met (Some course.now)) }
 {
     if !fold {
-        put_journal(alloc, out, course)
+        put_made(alloc, out, course)
     } else if is_done(met) {
         put_checkpoint(alloc, out, course)
     } else {

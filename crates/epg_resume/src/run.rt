@@ -159,10 +159,16 @@ pub fn run_folded<S: Source, A: Sink, R: Sink>(
     finish(alloc, &played, true, report)
 }
 
-/// `play --resume PATH`: reads the description of the multiplex from the input, then the checkpoint from the file of this path, up
-/// to its line `end` and at most 1,073,741,824 bytes, and plays the script behind the description as if the head-end had not been
-/// stopped. The report is the text of the new entries, whose publications go on with the numbers of the journal that was folded, and
-/// the line of the fault where there is one; with `fold`, it is that of [`run_folded`], over both journals and both airs together.
+/// `play --resume PATH`: reads the description of the multiplex from the input, then the checkpoint
+/// from the file of this path, up to its line `end` and at most 1,073,741,824 bytes, and plays the
+/// script after the description as if the head-end had not been stopped. The report is the text of
+/// the new entries, whose publications go on with the numbers of the journal that was folded. After
+/// it, where the description has a bit rate, one line says whether the new cycles repeat in time what
+/// is frequent: `rate,BITS,kept`, or `rate,BITS,short,CYCLES,NEEDED` with how many do not and the
+/// least rate that would have done, or `none`. A new cycle that was cut off counts too; the cycles
+/// of the checkpoint's air do not. The last line names the fault, where there is one. With `fold` the
+/// report is that of [`run_folded`], over both journals and both airs together: it has no line on the
+/// rate.
 ///
 /// `OpenFault(0)`, `ReadFault(Recording)`, `TooLong(Recording)` and `BadCheckpoint`, with the first line of the checkpoint that may
 /// not stand there, come before any step is done.

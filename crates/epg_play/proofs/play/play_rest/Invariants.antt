@@ -6,6 +6,7 @@ use Rattle.desk_core.specs.Journal.{Legal}
 use Rattle.journal_model.specs.Steps.{IsInWindow}
 use Rattle.air_sending.specs.OnAir.{HasAired}
 use Rattle.epg_play.specs.Items.{Went}
+use Rattle.epg_play.proofs.TallyFacts.{HasKept}
 use Rattle.epg_play.proofs.play.play_rest.Given as goal
 
 abbrev pub invariant-items : goal.invariant-items
@@ -19,6 +20,7 @@ invariant-items g l =
       legal : Legal l.desk.mux l.desk.entries;
       window : IfSome l.made IsInWindow;
       aired : (earlier : List Aired) (before : Option (List ℕ)) → HasAired earlier l.fn.desk l.fn.player before (g.A.Sink.written l.fn.air) → HasAired earlier l.desk l.player before (g.A.Sink.written l.air);
+      kept : HasKept l.fn.desk l.fn.player → HasKept l.desk l.player;
       went : Went l.fn.shift g.S.Source.left l.fn.lines l.lines l.fn.desk l.desk l.made;
     }
 

@@ -12,7 +12,7 @@ returns g c =
     record {
       run = play_run _ air report c.finish.result
           (λ text tells.
-          leaves_input g.S.Source.left c.play-played.new.lines.source.now _ c.play-played.result.stop text air report c.play-played.result.desk c.finish.result (search rules)
+          leaves_input g.S.Source.left c.play-played.new.lines.source.now _ c.play-played.result.stop text air report c.play-played.result.end c.finish.result (search rules)
           (c.play-played.ensures.played text (ap (λ r. g.S.Source.left r.source.now) c.in-Ok.ensures ∙ tells)) finished)
           (known c.play-played.result.stop _ report c.finish.result finished)
           (λ e. (let none = done_none c.play-played.result.stop _ report c.finish.result finished e in search rules))

@@ -38,6 +38,7 @@ returns-clause-played g c = record {
   did = c.play_rest-played.ensures.did;
   taken = c.play_rest-played.ensures.taken;
   aired = λ earlier has. c.play_rest-played.ensures.aired earlier (g.A.Sink.written c.args.air.now) has;
+  tallied = c.play_rest-played.ensures.tallied;
 }
 
 pub returns-clause-course : goal.returns-clause-course

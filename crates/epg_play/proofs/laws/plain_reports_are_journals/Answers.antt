@@ -1,0 +1,5 @@
+use Rattle.epg_play.proofs.TallyFacts.{plain_report}
+use Rattle.epg_play.proofs.laws.plain_reports_are_journals.Goals as goal
+
+pub returns : goal.returns
+returns c = plain_report
