@@ -5,6 +5,7 @@ use Rattle.std.specs.Io.KnownBytes.{Appends}
 use Rattle.std.proofs.KnownBytes.{Appends-trans}
 use mathlib.Core.List.{IsPrefix}
 use Rattle.guide_model.specs.declared.guide.Guide.{Guide}
+use Rattle.si_time.specs.declared.moment.Moment.{Moment}
 use Rattle.mux_model.specs.declared.mux.Mux.{Mux}
 use Rattle.version_book.specs.Airings.{CycleForm, AiredTables}
 use Rattle.air_model.specs.Air.{Aired, airings_of, air_bytes}
@@ -12,6 +13,7 @@ use Rattle.air_model.proofs.Airs.{airings_of-push, air_bytes-push}
 use Rattle.cycle_player.specs.Airs.{cycle_at, IsAirAt}
 use Rattle.cycle_player.specs.Sending.{Sending, AtEnd}
 use Rattle.cycle_player.proofs.Airs.{made_push}
+use Rattle.cycle_player.specs.Tallies.{tally_of}
 use Rattle.cycle_player.proofs.Ends.{end_air}
 use Rattle.publication.specs.Tables.{tables_of, HasServicesOf}
 use Rattle.journal_model.specs.declared.step.Step.{Step}
@@ -27,6 +29,8 @@ use Rattle.desk_core.proofs.JournalFacts.{publication_stays}
 use Rattle.air_sending.specs.declared.send.SendStop.TheVariants.{Air}
 use Rattle.air_sending.specs.OnAir.{IsPlayerOf, airing_by, cycle_bytes}
 use Rattle.journal_air.specs.Air.{airings_by, mux_form}
+use Rattle.air_sending.specs.Tallied.{HasCounted}
+use Rattle.air_sending.proofs.Tallied.{counted_more}
 use Rattle.air_sending.proofs.SwapFacts.{airings-append, publishes-front}
 use Rattle.air_sending.proofs.AirFacts.{on_air_services}
 use Rattle.turn_lock.proofs.Lists.{prefix_trans}
@@ -93,49 +97,61 @@ pub own_air : (mux : Mux) (player : Sending) (xs : List Aired) → IsPlayerOf mu
 own_air mux player xs is end =
     subst (λ (r : Option ℕ). IsAirAt r (airings_of xs) xs) is.rate (end_air xs player end)
 
+-- the tally with one more cycle, which was begun
+one_counted : (mux : Mux) (airing : Airing) (old new : Sending) (xs : List Aired) (x : Aired) → x.airing ≡ airing_by mux old.form airing → IsPlayerOf mux old
+    → old.tally ≡ tally_of mux.rate (airings_of xs) → HasCounted (airing_by mux old.form airing) old new → new.tally ≡ tally_of mux.rate (airings_of (xs ++ x ∷ []))
+one_counted mux airing old new xs x e is has counted =
+    counted_more mux.rate (airings_of xs) (airings_of (xs ++ x ∷ [])) (airing_by mux old.form airing) old new
+    (airings_of-push xs x ∙ ap (λ (a : AiredTables). airings_of xs ++ a ∷ []) e) is.rate has counted
+
 -- a whole cycle was sent
-pub sent_whole : (mux : Mux) (v w : View) (old new : Sending) (mid now : Known) (u : Unit {0}) → (s : SwapSent mux v w old new mid now (Ok u))
-    → GoesOn (λ entries before. HasPlayedTo mux w.seen entries new before now) mux v (entry_of v.own.low Swap (Swapped s.airing.number s.airing.moment) ∷ []) old mid
-sent_whole mux v w old new mid now u s = λ front before (xs, end, are, made, is, bytes).
-    let (x, e, packets, ended, took) = s.sent xs end in
-    let rate : new.rate ≡ mux.rate = s.rate ∙ is.rate in (
-      xs ++ x ∷ [],
-      ended,
-      one_more mux s.airing v w front xs x s.made s.airing_is are (e ∙ own_form mux s.airing old is.form),
-      made_push mux.rate [] xs x made (own_cycle mux.rate new xs x _ rate e packets),
-      record { form = s.form ∙ is.form; rate = rate },
-      subst (Appends before now) (sym (air_bytes-push xs x)) (Appends-trans before mid now (air_bytes xs) (cycle_bytes x) bytes took),
-    )
+pub sent_whole : (tick : Option Moment) (mux : Mux) (v w : View) (old new : Sending) (mid now : Known) (u : Unit {0}) → (s : SwapSent tick mux v w old new mid now (Ok u))
+    → GoesOn (λ entries before. HasPlayedTo mux w.seen entries new before now) mux s.between (entry_of s.between.own.low Swap (Swapped s.airing.number s.airing.moment) ∷ []) old mid
+sent_whole tick mux v w old new mid now u s = λ front before h.
+    let xs = h.cycles in
+    let (x, e, packets, ended, took) = s.sent xs h.at_end in
+    let rate : new.rate ≡ mux.rate = s.rate ∙ h.player_of.rate in
+    record {
+      cycles = xs ++ x ∷ [];
+      at_end = ended;
+      airings_are = one_more mux s.airing s.between w front xs x s.made s.airing_is h.airings_are (e ∙ own_form mux s.airing old h.player_of.form);
+      made = made_push mux.rate [] xs x h.made (own_cycle mux.rate new xs x _ rate e packets);
+      player_of = record { form = s.form ∙ h.player_of.form; rate = rate };
+      tally = one_counted mux s.airing old new xs x e h.player_of h.tally s.counted;
+      bytes = subst (Appends before now) (sym (air_bytes-push xs x)) (Appends-trans before mid now (air_bytes xs) (cycle_bytes x) h.bytes took);
+    }
 
 -- a cycle was sent in part
-pub sent_front : (mux : Mux) (v w : View) (old new : Sending) (mid now : Known) → (s : SwapSent mux v w old new mid now (Err Air))
-    → GoesOn (λ entries before. HasPlayedFront mux w.seen entries before now) mux v (entry_of v.own.low Swap (Swapped s.airing.number s.airing.moment) ∷ []) old mid
-sent_front mux v w old new mid now s = λ front before (xs, end, are, made, is, bytes).
-    let (x, e, packets, is_air, (n, proper, took)) = s.sent xs end in
-    let rate : new.rate ≡ mux.rate = s.rate ∙ is.rate in
+pub sent_front : (tick : Option Moment) (mux : Mux) (v w : View) (old new : Sending) (mid now : Known) → (s : SwapSent tick mux v w old new mid now (Err Air))
+    → GoesOn (λ entries before. HasPlayedFront mux w.seen entries new before now) mux s.between (entry_of s.between.own.low Swap (Swapped s.airing.number s.airing.moment) ∷ []) old mid
+sent_front tick mux v w old new mid now s = λ front before h.
+    let xs = h.cycles in
+    let (x, e, packets, is_air, (n, proper, took)) = s.sent xs h.at_end in
+    let rate : new.rate ≡ mux.rate = s.rate ∙ h.player_of.rate in
     record {
       whole = xs;
       cut = x;
       is_air = subst (λ (r : Option ℕ). IsAirAt r (airings_of (xs ++ x ∷ [])) (xs ++ x ∷ [])) rate is_air;
-      airings_are = one_more mux s.airing v w front xs x s.made s.airing_is are (e ∙ own_form mux s.airing old is.form);
-      made = made_push mux.rate [] xs x made (own_cycle mux.rate new xs x _ rate e packets);
+      airings_are = one_more mux s.airing s.between w front xs x s.made s.airing_is h.airings_are (e ∙ own_form mux s.airing old h.player_of.form);
+      made = made_push mux.rate [] xs x h.made (own_cycle mux.rate new xs x _ rate e packets);
+      tally = one_counted mux s.airing old new xs x e h.player_of h.tally s.counted;
       taken = n;
       proper = proper;
-      bytes = Appends-trans before mid now (air_bytes xs) (take n (cycle_bytes x)) bytes took;
+      bytes = Appends-trans before mid now (air_bytes xs) (take n (cycle_bytes x)) h.bytes took;
     }
 
 -- no cycle was sent
 pub sent_none : (mux : Mux) (v w : View) (old : Sending) (mid now : Known) (added : List Entry) → IsPrefix v.seen w.seen → now ≡ mid
     → GoesOn (λ entries before. HasPlayedSome mux w.seen entries before now) mux v added old mid
-sent_none mux v w old mid now added p same = λ front before (xs, end, are, made, is, bytes). record {
+sent_none mux v w old mid now added p same = λ front before h. record {
   done = front;
   left = added;
   entries_are = refl;
-  whole = xs;
-  is_air = own_air mux old xs is end;
-  airings_are = put_longer mux v.seen w.seen front (airings_of xs) p are;
-  made = made;
-  bytes = subst (λ (k : Known). Appends before k (air_bytes xs)) (sym same) bytes;
+  whole = h.cycles;
+  is_air = own_air mux old h.cycles h.player_of h.at_end;
+  airings_are = put_longer mux v.seen w.seen front (airings_of h.cycles) p h.airings_are;
+  made = h.made;
+  bytes = subst (λ (k : Known). Appends before k (air_bytes h.cycles)) (sym same) h.bytes;
 }
 
 -- what the airing of a swap needs for its cycle

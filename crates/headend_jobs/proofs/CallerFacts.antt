@@ -1,5 +1,5 @@
 -- Each caller's commands in the journal of a run.
-use Rattle.std.proofs.Common.{◌≡◌, ℕ, suc, ◌+◌, ◌≤◌, arith, length, List, [], ◌∷◌, ◌++◌, map, take, refl, sym, ap, ◌∙◌, subst, append-nil}
+use Rattle.std.proofs.Common.{◌≡◌, ℕ, zero, suc, ◌+◌, ◌≤◌, ◌<◌, true, arith, length, List, [], ◌∷◌, ◌++◌, map, take, refl, sym, ap, ◌∙◌, subst, append-nil}
 use Rattle.std.specs.Prelude.{Option, Some, None, Ok, Err, Result}
 use Rattle.std.specs.List.{AllByRecursion}
 use Rattle.std.proofs.lemmas.List.{map-append}
@@ -17,7 +17,15 @@ use Rattle.cycle_player.specs.Sending.{Sending}
 use Rattle.air_sending.specs.declared.send.SendStop.{SendStop}
 use Rattle.air_sending.specs.declared.send.SendStop.TheVariants.{Air}
 use Rattle.air_sending.specs.declared.send.SendStop.TheVariants as wanting
-use Rattle.headend_jobs.specs.Playing.{SwapsPlayed, swaps_by}
+use mathlib.Core.List.{IsPrefix}
+use Rattle.si_time.specs.declared.moment.Moment.{Moment}
+use Rattle.cycle_player.specs.Making.{tick_then}
+use Rattle.journal_air.specs.Air.{airings, airings_by}
+use Rattle.headend_jobs.specs.Playing.{AreTicks, HasPlayedTo, IsNextTick, SwapsPlayed, TurnsMade}
+use Rattle.headend_jobs.specs.Ticking.{tick_by, tick_of, ticks_for, ticks_of, turns_by}
+use Rattle.headend_jobs.proofs.Ending.{airs_are}
+use Rattle.headend_jobs.proofs.Running.{swaps_did}
+use Rattle.headend_jobs.proofs.Ticking.{own_tick, own_ticks, ticks_len}
 use Rattle.turn_lock.specs.declared.known.Caller.{Caller}
 use Rattle.turn_lock.specs.Knowledge.{NotLowest, TableId}
 use Rattle.headend_jobs.specs.declared.jobs.FeedJob.{FeedJob}
@@ -70,17 +78,57 @@ did_commands journal commands v w empty is d =
     ∙ ap (map command_of) (is ∙ ap (λ (z : View). z.own.made) d.gained ∙ ap (λ (l : List Entry). l ++ d.added) empty)
     ∙ d.commands_are
 
-player_swapped : (mux : Mux) (journal : List Entry) (n : ℕ) (v w : View) (old new : Sending) (mid now : Option (List ℕ)) (end : Result (Unit {0}) SendStop) → v.own.low ≡ 1 → v.own.made ≡ [] → of w.own.low journal ≡ w.own.made
-    → SwapsPlayed mux n v w old new mid now end → PlayerSwapped journal n end
-player_swapped mux journal n v w old new mid now (Ok u) low empty is (d, goes) = subst (λ (k : ℕ). CommandsAre journal k (swaps_by k n)) low (did_commands journal (swaps_by v.own.low n) v w empty is d)
-player_swapped mux journal n v w old new mid now (Err Air) low empty is (k, less, (d, goes)) = (k, less, subst (λ (i : ℕ). CommandsAre journal i (swaps_by i (suc k))) low (did_commands journal (swaps_by v.own.low (suc k)) v w empty is d))
-player_swapped mux journal n v w old new mid now (Err wanting.Memory) low empty is (k, le, (d, goes)) = (k, le, subst (λ (i : ℕ). CommandsAre journal i (swaps_by i k)) low (did_commands journal (swaps_by v.own.low k) v w empty is d))
+-- under a number that it has
+did_commands_by : (journal : List Entry) (who : ℕ) (commands : List Command) (v w : View) → v.own.low ≡ who → v.own.made ≡ [] → of w.own.low journal ≡ w.own.made → Did commands v w → CommandsAre journal who commands
+did_commands_by journal who commands v w low empty is d = subst (λ (i : ℕ). CommandsAre journal i commands) low (did_commands journal commands v w empty is d)
+
+-- what is taken of a tick that is known where any of it is taken
+taken_tick : (more who : ℕ) (tick other : Option Moment) → (0 < more → tick ≡ other) → take more (tick_by who tick) ≡ take more (tick_by who other)
+taken_tick zero who tick other same = refl
+taken_tick (suc more) who tick other same = ap (λ (o : Option Moment). take (suc more) (tick_by who o)) (same (omega arith))
+
+-- the player, which had played nothing
+module _ (mux : Mux) (journal final : List Entry) (v w : View) (old new : Sending) (mid now : Option (List ℕ)) (low : v.own.low ≡ 1) (empty : v.own.made ≡ []) (is : of w.own.low journal ≡ w.own.made)
+    (played : HasPlayedTo mux v.seen [] old mid mid) (are : airings mux journal ≡ airings_by mux journal (w.own.made ++ final)) (began : IsPrefix w.seen journal) where
+  -- its ticks are those of the journal
+  ticks_told : (commands : List Command) (d : Did commands v w) (ticks : List (Option Moment)) → AreTicks true mux v w.seen d.added old mid ticks → ticks ≡ ticks_of mux journal (length ticks)
+  ticks_told commands d ticks told =
+      let made : w.own.made ≡ d.added = ap (λ (z : View). z.own.made) d.gained ∙ ap (λ (l : List Entry). l ++ d.added) empty in
+      own_ticks mux journal w.own.made final are ticks (told [] mid played journal began ∙ ap (λ (l : List Entry). ticks_for mux.rate [] (airings_by mux journal l)) (sym made))
+
+  tick_told : (commands : List Command) (d : Did commands v w) (ticks : List (Option Moment)) (tick : Option Moment) → AreTicks true mux v w.seen d.added old mid ticks → IsNextTick true mux v w.seen d.added old mid tick
+      → tick ≡ tick_of mux journal (length ticks)
+  tick_told commands d ticks tick told next =
+      let made : w.own.made ≡ d.added = ap (λ (z : View). z.own.made) d.gained ∙ ap (λ (l : List Entry). l ++ d.added) empty in
+      let count : length (airings_by mux journal w.own.made) ≡ length ticks =
+      ap (λ (l : List Entry). length (airings_by mux journal l)) made ∙ sym (ticks_len mux.rate [] (airings_by mux journal d.added)) ∙ ap length (sym (told [] mid played journal began)) in
+      next [] mid played journal began ∙ ap (λ (l : List Entry). tick_then mux.rate (airings_by mux journal l)) (sym made) ∙ own_tick mux journal w.own.made final are (length ticks) count
+
+  turns_made : (n : ℕ) (t : TurnsMade true mux n v w old mid) → CommandsAre journal 1 (turns_by 1 (ticks_of mux journal n))
+  turns_made n t =
+      subst (λ (k : ℕ). CommandsAre journal 1 (turns_by 1 (ticks_of mux journal k))) t.count
+      (subst (λ (ticks : List (Option Moment)). CommandsAre journal 1 (turns_by 1 ticks)) (ticks_told (turns_by v.own.low t.ticks) t.did t.ticks t.ticks_are)
+      (subst (λ (i : ℕ). CommandsAre journal i (turns_by i t.ticks)) low (did_commands journal (turns_by v.own.low t.ticks) v w empty is t.did)))
+
+  player_swapped : (n : ℕ) (end : Result (Unit {0}) SendStop) → SwapsPlayed true mux n v w old new mid now end → PlayerSwapped mux journal n end
+  player_swapped n (Ok u) (t, goes) = turns_made n t
+  player_swapped n (Err Air) (k, less, (t, goes)) = (k, less, turns_made (suc k) t)
+  player_swapped n (Err wanting.Memory) (t, goes) =
+      let commands : List Command = turns_by v.own.low t.ticks ++ take t.more (tick_by v.own.low t.tick) in
+      let k : ℕ = length t.ticks in (
+        k,
+        t.more,
+        t.count,
+        did_commands_by journal 1 commands v w low empty is t.did
+            ∙ ap (λ (i : ℕ). turns_by i t.ticks ++ take t.more (tick_by i t.tick)) low
+            ∙ ap (λ (ticks : List (Option Moment)). turns_by 1 ticks ++ take t.more (tick_by 1 t.tick)) (ticks_told commands t.did t.ticks t.ticks_are)
+            ∙ ap (λ (l : List Command). turns_by 1 (ticks_of mux journal k) ++ l)
+            (taken_tick t.more 1 t.tick (tick_of mux journal k) (λ some. tick_told commands t.did t.ticks t.tick t.ticks_are (t.tick_is some))),
+      )
 
 -- the player's pass keeps its number
-swaps_low : (mux : Mux) (n : ℕ) (v w : View) (old new : Sending) (mid now : Option (List ℕ)) (end : Result (Unit {0}) SendStop) → SwapsPlayed mux n v w old new mid now end → w.own.low ≡ v.own.low
-swaps_low mux n v w old new mid now (Ok u) (d, goes) = ap (λ (z : View). z.own.low) d.gained
-swaps_low mux n v w old new mid now (Err Air) (k, less, (d, goes)) = ap (λ (z : View). z.own.low) d.gained
-swaps_low mux n v w old new mid now (Err wanting.Memory) (k, le, (d, goes)) = ap (λ (z : View). z.own.low) d.gained
+swaps_low : (mux : Mux) (n : ℕ) (v w : View) (old new : Sending) (mid now : Option (List ℕ)) (end : Result (Unit {0}) SendStop) → SwapsPlayed true mux n v w old new mid now end → w.own.low ≡ v.own.low
+swaps_low mux n v w old new mid now end played = ap (λ (z : View). z.own.low) (swaps_did true mux n v w old new mid now end played).1.gained
 
 module _ {F : Type 0} (left : F → Option (List ℕ)) (faults : F → ℕ) (is_same : F → F → Type 0) (t : TableId) (mux : Mux) (journal : List Entry) where
   feeds_read : (n : ℕ) (rs : List (Reading F)) (jobs : List (FeedJob F)) → FeedsRan left faults is_same t mux n rs jobs
@@ -109,14 +157,14 @@ module _ {F : Type 0} (left : F → Option (List ℕ)) (faults : F → ℕ) (is_
 module _ {F S : Type 0} (left : F → Option (List ℕ)) (faults : F → ℕ) (is_same : F → F → Type 0) (leftS : S → Option (List ℕ)) (faultsS : S → ℕ) (is_sameS : S → S → Type 0) where
   pub callers_have : (turns : TableId) (mux : Mux) (cycles : ℕ) (readers : List (Reading F)) (reader : Reading S) (playing : Sending) (before now : Option (List ℕ)) (journal : List Entry) (sent : Result (Unit {0}) SendStop)
       → (d : LiveDid left faults is_same leftS faultsS is_sameS turns mux cycles readers reader playing before now journal sent)
-      → HaveTheirCommands left leftS journal cycles readers reader d.feeds d.control d.player d.final
-  callers_have turns mux cycles readers reader playing before now journal sent d =
+      → HasPlayedTo mux [] [] playing before before → HaveTheirCommands left leftS mux journal cycles readers reader d.feeds d.control d.player d.final
+  callers_have turns mux cycles readers reader playing before now journal sent d played =
       let low = ap (λ (z : View). z.own.low) d.control_did.did.1.gained in
       let player_low = swaps_low mux cycles (new_pass turns mux 1) d.player.pass playing d.player.player before d.mid d.player.end d.player_did in
       record {
         feeds_read = feeds_read left faults is_same turns mux journal 1 readers d.feeds d.feeds_ran d.journal_did.each.1;
         control_read = caller_read control_step controls_ahead leftS faultsS is_sameS journal 0 d.final (new_pass turns mux 0) d.control.pass reader d.control.lines d.control.stop refl refl
             (ap (λ (k : ℕ). of k journal) (sym low) ∙ d.journal_did.mine) d.control_did;
-        player_swapped = player_swapped mux journal cycles (new_pass turns mux 1) d.player.pass playing d.player.player before d.mid d.player.end refl refl d.journal_did.each.0 d.player_did;
+        player_swapped = player_swapped mux journal d.final (new_pass turns mux 1) d.player.pass playing d.player.player before d.mid refl refl d.journal_did.each.0 played (airs_are d.journal_did) d.began cycles d.player.end d.player_did;
         others = λ k le. d.journal_did.others k (λ e. absurd (omega (arith, e, low, le)), (λ e. absurd (omega (arith, e, player_low, le)), feeds_below left faults is_same turns mux journal 1 readers d.feeds d.feeds_ran k (omega (arith, le))));
       }

@@ -1,6 +1,7 @@
 pub mod Airs
 pub mod ManyJobs
 pub mod WholeJournal
+pub mod Ticking
 pub mod Closing
 pub mod Ending
 pub mod Cutting

@@ -1,6 +1,6 @@
 -- What is posted, swap by swap.
 use Rattle.std.proofs.Common.{◌≡◌, ℕ, List, [], ◌∷◌, ◌++◌, map, refl, sym, ap, ◌∙◌, subst, append-nil, append_assoc}
-use Rattle.std.specs.Prelude.{Ok, Err, OnOk, Result}
+use Rattle.std.specs.Prelude.{Option, Some, None, Ok, Err, OnOk, Result}
 use Rattle.air_sending.specs.declared.send.SendStop.{SendStop}
 use Rattle.std.specs.List.{AllByRecursion}
 use Rattle.std.proofs.lemmas.List.{append_cancel_left}
@@ -15,7 +15,8 @@ use Rattle.guide_limits.specs.Limits.{IsGuideWithin, IsServiceWithin}
 use Rattle.mux_model.specs.declared.mux.Mux.{Mux}
 use Rattle.publication.specs.Tables.{HasServicesOf}
 use Rattle.journal_air.proofs.Published.{published_services}
-use Rattle.journal_model.specs.declared.step.Step.TheVariants.{Publish, Swap}
+use Rattle.si_time.specs.declared.moment.Moment.{Moment}
+use Rattle.journal_model.specs.declared.step.Step.TheVariants.{Publish, Swap, Tick}
 use Rattle.journal_model.specs.declared.step.Outcome.TheVariants.{Published, Swapped}
 use Rattle.journal_model.specs.declared.step.Entry.{Entry}
 use Rattle.desk_core.specs.declared.airing.Airing.{Airing}
@@ -30,7 +31,9 @@ use Rattle.turn_lock.proofs.Lists.{prefix_self, prefix_trans}
 use Rattle.desk_hall.specs.Turn.{View, Made, caller_of, desk_with, entry_of}
 use Rattle.desk_hall.proofs.Passes.{made_began}
 use Rattle.headend_jobs.specs.Posting.{HasPosted, HasPostedAll, HaveServicesOf, KeepsBoard, opening_of, post_at, posts_by, posts_of}
+use Rattle.headend_jobs.specs.Ticking.{Ticked}
 use Rattle.headend_jobs.specs.Whole.{JournalDid}
+use Rattle.headend_jobs.proofs.Ticking.{tick_aired}
 use Rattle.headend_jobs.proofs.Airs.{swap_number}
 use Rattle.air_sending.proofs.SwapFacts.{swaps-append}
 
@@ -129,6 +132,16 @@ posted_publish mux n v w board m = record {
   made = ap (λ (z : View). z.own.made) m.gained;
   began = made_began Publish (Published n) v w m;
   posts = λ journal p. sym (append-nil board.posts);
+}
+
+-- and so does a tick
+pub posted_tick : (mux : Mux) (tick : Option Moment) (v b : View) (board : Sight) → Ticked tick v b → HasPosted mux v b board board
+posted_tick mux None v b board t = posted_none mux v b board t
+posted_tick mux (Some at) v b board (outcome, m) = record {
+  added = entry_of v.own.low (Tick at) outcome ∷ [];
+  made = ap (λ (z : View). z.own.made) m.gained;
+  began = made_began (Tick at) outcome v b m;
+  posts = λ journal p. sym (append-nil board.posts) ∙ ap (λ (l : List (ℕ × Moment)). board.posts ++ map (post_at mux journal) l) (sym (tick_aired at outcome v b m));
 }
 
 -- ---- the posts of a whole journal

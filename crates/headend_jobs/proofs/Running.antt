@@ -1,6 +1,6 @@
 -- What the jobs of a run leave, of what a run gave them.
-use Rattle.std.proofs.Common.{◌≡◌, ◌≢◌, inl, inr, ℕ, suc, ◌+◌, ◌≤◌, ◌<◌, List, [], ◌∷◌, ◌++◌, length, refl, sym, ap, ◌∙◌, subst, arith, lt_of_not-le}
-use Rattle.std.specs.Prelude.{Option, Some, None, Result, Ok, Err, OnOk, slice_index_or}
+use Rattle.std.proofs.Common.{◌≡◌, ◌≢◌, inl, inr, ℕ, ◌+◌, ◌≤◌, ◌<◌, Bool, true, List, [], ◌∷◌, ◌++◌, length, take, refl, sym, ap, ◌∙◌, subst, arith, lt_of_not-le}
+use Rattle.std.specs.Prelude.{Option, Some, None, Result, Ok, Err, OnOk, slice_index_or, ◌||◌, is_some}
 use Rattle.std.specs.List.{AllByRecursion}
 use native.Mathlib.Decide.{ℕ_discrete, dec_le}
 use mathlib.Core.Logic.{dite}
@@ -11,6 +11,8 @@ use Rattle.air_sending.specs.OnAir.{HasAirCause, IsPlayerOf}
 use Rattle.si_causes.specs.Reading.{Reading}
 use Rattle.cycle_player.specs.Airs.{AreMadeAt}
 use Rattle.cycle_player.specs.Sending.{Sending, AtEnd}
+use Rattle.cycle_player.specs.Tallies.{tally_of}
+use Rattle.timed_player.specs.Tally.{no_cycles}
 use Rattle.journal_model.specs.declared.step.Entry.{Entry}
 use Rattle.air_sending.specs.declared.send.SendStop.{SendStop}
 use Rattle.air_sending.specs.declared.send.SendStop.TheVariants.{Air, Memory}
@@ -20,34 +22,68 @@ use Rattle.headend_jobs.specs.declared.jobs.FeedJob.{FeedJob}
 use Rattle.headend_jobs.specs.declared.jobs.ControlJob.{ControlJob}
 use Rattle.headend_jobs.specs.declared.jobs.PlayerJob.{PlayerJob}
 use Rattle.desk_hall.specs.Turn.{View, Did}
-use Rattle.headend_jobs.specs.Playing.{HasPlayedTo, HasPlayedFront, HasPlayedSome, SwapsPlayed, swaps_by}
+use Rattle.si_time.specs.declared.moment.Moment.{Moment}
+use mathlib.Core.List.{IsPrefix}
+use Rattle.cycle_player.specs.Making.{tick_then}
+use Rattle.cycle_player.proofs.Making.{end_tells}
+use Rattle.journal_model.specs.Steps.{Command}
+use Rattle.journal_air.specs.Air.{airings, airings_by}
+use Rattle.headend_jobs.specs.Playing.{HasPlayedTo, HasPlayedFront, HasPlayedSome, SwapsPlayed}
+use Rattle.headend_jobs.specs.Ticking.{tick_by, tick_now, tick_of, ticks_for, turns_by}
+use Rattle.headend_jobs.proofs.Ticking.{own_tick, ticks_len}
 use Rattle.headend_jobs.specs.Jobs.{FeedDid, ControlDid, PlayerDid}
 use Rattle.headend_jobs.specs.Whole.{NoSwaps, SwapsNot}
-use Rattle.headend_jobs.specs.Live.{callers_back, new_pass, new_control, new_player, jobs_back, FeedsRan, PlayedAs}
+use Rattle.headend_jobs.specs.Live.{callers_back, halts, new_pass, new_control, new_player, jobs_back, FeedsRan, LastMade, PlayedAs}
 use Rattle.headend_jobs.proofs.Cutting.{control_no_swaps, feeds_apart, feeds_have, feeds_swaps, ran, zip_of, Zip}
 
-pub swaps_did : (mux : Mux) (n : ℕ) (v w : View) (old new : Sending) (mid now : Option (List ℕ)) (end : Result (Unit {0}) SendStop) → SwapsPlayed mux n v w old new mid now end → (k : ℕ) × Did (swaps_by v.own.low k) v w
-swaps_did mux n v w old new mid now (Ok u) (d, on) = (n, d)
-swaps_did mux n v w old new mid now (Err Air) (k, less, (d, on)) = (suc k, d)
-swaps_did mux n v w old new mid now (Err Memory) (k, le, (d, on)) = (k, d)
+pub swaps_did : (ticking : Bool) (mux : Mux) (n : ℕ) (v w : View) (old new : Sending) (mid now : Option (List ℕ)) (end : Result (Unit {0}) SendStop) → SwapsPlayed ticking mux n v w old new mid now end
+    → (commands : List Command) × Did commands v w
+swaps_did ticking mux n v w old new mid now (Ok u) (t, on) = (turns_by v.own.low t.ticks, t.did)
+swaps_did ticking mux n v w old new mid now (Err Air) (k, less, (t, on)) = (turns_by v.own.low t.ticks, t.did)
+swaps_did ticking mux n v w old new mid now (Err Memory) (t, on) = (turns_by v.own.low t.ticks ++ take t.more (tick_by v.own.low t.tick), t.did)
 
 -- no cycles, at any rate
 made_none : (rate : Option ℕ) → AreMadeAt rate [] []
 made_none None = tt
 made_none (Some rate) = tt
 
--- what a player that had sent nothing has sent
-module _ (mux : Mux) (v w : View) (old new : Sending) (mid now : Option (List ℕ)) (empty : v.own.made ≡ []) (ready : AtEnd [] old) (is : IsPlayerOf mux old) where
+tally_none : (rate : Option ℕ) → tally_of rate [] ≡ no_cycles
+tally_none None = refl
+tally_none (Some rate) = refl
+
+-- what a player that had sent nothing had played
+pub nothing_played : (mux : Mux) (seen : List Entry) (player : Sending) (mid : Option (List ℕ)) → AtEnd [] player → IsPlayerOf mux player → player.tally ≡ no_cycles → HasPlayedTo mux seen [] player mid mid
+nothing_played mux seen player mid ready is counted =
+    record { cycles = []; at_end = ready; airings_are = λ journal p. refl; made = made_none mux.rate; player_of = is; tally = counted ∙ sym (tally_none mux.rate); bytes = Appends-nothing mid }
+
+-- and what it has sent
+module _ (mux : Mux) (v w : View) (old new : Sending) (mid now : Option (List ℕ)) (empty : v.own.made ≡ []) (ready : AtEnd [] old) (is : IsPlayerOf mux old) (counted : old.tally ≡ no_cycles) where
   none_played : HasPlayedTo mux v.seen [] old mid mid
-  none_played = ([], ready, (λ journal p. refl), made_none mux.rate, is, Appends-nothing mid)
+  none_played = nothing_played mux v.seen old mid ready is counted
 
-  made_is : (k : ℕ) → (d : Did (swaps_by v.own.low k) v w) → w.own.made ≡ d.added
-  made_is k d = ap (λ (z : View). z.own.made) d.gained ∙ ap (λ (l : List Entry). l ++ d.added) empty
+  made_is : (commands : List Command) → (d : Did commands v w) → w.own.made ≡ d.added
+  made_is commands d = ap (λ (z : View). z.own.made) d.gained ∙ ap (λ (l : List Entry). l ++ d.added) empty
 
-  pub first_played : (n : ℕ) (end : Result (Unit {0}) SendStop) → SwapsPlayed mux n v w old new mid now end → PlayedAs mux w.seen w.own.made new mid now end
-  first_played n (Ok u) (d, on) = subst (λ (l : List Entry). HasPlayedTo mux w.seen l new mid now) (sym (made_is n d)) (on [] mid none_played)
-  first_played n (Err Air) (k, less, (d, on)) = subst (λ (l : List Entry). HasPlayedFront mux w.seen l mid now) (sym (made_is (suc k) d)) (on [] mid none_played)
-  first_played n (Err Memory) (k, le, (d, on)) = subst (λ (l : List Entry). HasPlayedSome mux w.seen l mid now) (sym (made_is k d)) (on [] mid none_played)
+  pub first_played : (n : ℕ) (end : Result (Unit {0}) SendStop) → SwapsPlayed true mux n v w old new mid now end → PlayedAs mux w.seen w.own.made new mid now end
+  first_played n (Ok u) (t, on) = subst (λ (l : List Entry). HasPlayedTo mux w.seen l new mid now) (sym (made_is (turns_by v.own.low t.ticks) t.did)) (on [] mid none_played)
+  first_played n (Err Air) (k, less, (t, on)) = subst (λ (l : List Entry). HasPlayedFront mux w.seen l new mid now) (sym (made_is (turns_by v.own.low t.ticks) t.did)) (on [] mid none_played)
+  first_played n (Err Memory) (t, on) =
+      subst (λ (l : List Entry). HasPlayedSome mux w.seen l mid now) (sym (made_is (turns_by v.own.low t.ticks ++ take t.more (tick_by v.own.low t.tick)) t.did)) (on [] mid none_played)
+
+  -- the tick that the clock tells after it is that of the swap after its swaps
+  module _ (journal final : List Entry) (are : airings mux journal ≡ airings_by mux journal (w.own.made ++ final)) (began : IsPrefix w.seen journal) where
+    tick_told : (n : ℕ) (u : Unit {0}) → SwapsPlayed true mux n v w old new mid now (Ok u) → tick_now true new ≡ tick_of mux journal n
+    tick_told n u (t, on) =
+        let h = first_played n (Ok u) (t, on) in
+        let same = made_is (turns_by v.own.low t.ticks) t.did in
+        let ticks : t.ticks ≡ ticks_for mux.rate [] (airings_by mux journal w.own.made) = t.ticks_are [] mid none_played journal began ∙ ap (λ (l : List Entry). ticks_for mux.rate [] (airings_by mux journal l)) (sym same) in
+        let len : length (airings_by mux journal w.own.made) ≡ n = sym (ticks_len mux.rate [] (airings_by mux journal w.own.made)) ∙ ap length (sym ticks) ∙ t.count in
+        end_tells mux.rate h.cycles new h.player_of.rate h.at_end h.made ∙ ap (tick_then mux.rate) (h.airings_are journal began) ∙ own_tick mux journal w.own.made final are n len
+
+    pub last_told : {X Y : Type 0} (n : ℕ) (end : Result (Unit {0}) SendStop) (x : Option X) (y : Option Y) (who : ℕ) (sent : Result (Unit {0}) SendStop) → SwapsPlayed true mux n v w old new mid now end
+        → LastMade (halts end x y) (tick_now true new) who final sent → LastMade (halts end x y) (tick_of mux journal n) who final sent
+    last_told n (Ok u) x y who sent played last = subst (λ (o : Option Moment). LastMade (is_some x || is_some y) o who final sent) (tick_told n u played) last
+    last_told n (Err stop) x y who sent played last = last
 
 -- what is known of a pass of one number behind its turns
 pub record Lone (t : TableId) (who : ℕ) (w : View) : Type 0 where
@@ -73,7 +109,7 @@ control_lone {S = S} left faults is_same t mux old new is d =
 
 pub player_lone : (t : TableId) (old new : PlayerJob) (mid now : Option (List ℕ)) (before after : ℕ) → old ≡ new_player t old.mux old.cycles old.player → PlayerDid old new mid now before after → Lone t 1 new.pass
 player_lone t old new mid now before after is d =
-    let did = (swaps_did old.mux old.cycles old.pass new.pass old.player new.player mid now new.end d.played).1 in
+    let did = (swaps_did true old.mux old.cycles old.pass new.pass old.player new.player mid now new.end d.played).1 in
     let pass : old.pass ≡ new_pass t old.mux 1 = ap (λ (j : PlayerJob). j.pass) is in
     record {
       turns = ap (λ (z : View). z.turns) did.gained ∙ ap (λ (z : View). z.turns) pass;

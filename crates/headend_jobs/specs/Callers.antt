@@ -1,5 +1,5 @@
 -- Each caller's commands in the journal of a run.
-use Rattle.std.specs.Prelude.{◌≡◌, ℕ, suc, ◌+◌, ◌<◌, ◌≤◌, List, [], ◌∷◌, ◌++◌, length, map, Option, Some, None, Ok, Err, Result}
+use Rattle.std.specs.Prelude.{◌≡◌, ℕ, suc, ◌+◌, ◌<◌, ◌≤◌, List, [], ◌∷◌, ◌++◌, length, map, take, Option, Some, None, Ok, Err, Result}
 use Rattle.si_causes.specs.Reading.{Reading, text_left}
 use Rattle.mux_model.specs.declared.mux.Mux.{Mux}
 use Rattle.cycle_player.specs.Sending.{Sending}
@@ -18,7 +18,7 @@ use Rattle.desk_hall.specs.Reads.{commands_by, edit_step, control_step, controls
 use Rattle.headend_jobs.specs.declared.jobs.FeedJob.{FeedJob}
 use Rattle.headend_jobs.specs.declared.jobs.ControlJob.{ControlJob}
 use Rattle.headend_jobs.specs.declared.jobs.PlayerJob.{PlayerJob}
-use Rattle.headend_jobs.specs.Playing.{swaps_by}
+use Rattle.headend_jobs.specs.Ticking.{tick_by, tick_of, ticks_of, turns_by}
 use Rattle.headend_jobs.specs.declared.live.Ended.{Ended}
 use Rattle.headend_jobs.specs.Live.{LiveDid, first_stop}
 use Rattle.headend_jobs.specs.Back.{lines_back}
@@ -41,23 +41,27 @@ FeedsRead {S} left journal n (reader ∷ readers) jobs =
     (rest : List (FeedJob S)) × (job : FeedJob S) × (jobs ≡ rest ++ job ∷ []) × (job.feed ≡ n) × CallerRead (edit_step n) edits_ahead left journal (n + 1) [] reader job.lines job.stop
     × FeedsRead left journal (n + 1) readers rest
 
--- Caller 1 made its swaps: all, or so many of them where the air failed in the last or memory was wanting.
-abbrev pub PlayerSwapped : List Entry → ℕ → Result (Unit {0}) SendStop → Type 0
-PlayerSwapped journal n (Ok u) = CommandsAre journal 1 (swaps_by 1 n)
-PlayerSwapped journal n (Err Air) = (k : ℕ) × (k < n) × CommandsAre journal 1 (swaps_by 1 (suc k))
-PlayerSwapped journal n (Err Memory) = (k : ℕ) × (k ≤ n) × CommandsAre journal 1 (swaps_by 1 k)
+-- Caller 1 made its swaps, each after its tick: all, or so many of them where the air failed in the
+-- last. Where memory was wanting, it made so many, and perhaps the tick of the next.
+abbrev pub PlayerSwapped : Mux → List Entry → ℕ → Result (Unit {0}) SendStop → Type 0
+PlayerSwapped mux journal n (Ok u) = CommandsAre journal 1 (turns_by 1 (ticks_of mux journal n))
+PlayerSwapped mux journal n (Err Air) =
+    (k : ℕ) × (k < n) × CommandsAre journal 1 (turns_by 1 (ticks_of mux journal (suc k)))
+PlayerSwapped mux journal n (Err Memory) =
+    (k more : ℕ) × (k + more ≤ n) × CommandsAre journal 1
+    (turns_by 1 (ticks_of mux journal k) ++ take more (tick_by 1 (tick_of mux journal k)))
 
 -- A run's callers, each with exactly its commands, and no others; behind the control's lines stand its last turns.
-pub record HaveTheirCommands {F S : Type 0} (left : F → Option (List ℕ)) (leftS : S → Option (List ℕ)) (journal : List Entry) (cycles : ℕ) (readers : List (Reading F)) (reader : Reading S)
+pub record HaveTheirCommands {F S : Type 0} (left : F → Option (List ℕ)) (leftS : S → Option (List ℕ)) (mux : Mux) (journal : List Entry) (cycles : ℕ) (readers : List (Reading F)) (reader : Reading S)
     (feeds : List (FeedJob F)) (control : ControlJob S) (player : PlayerJob) (final : List Entry) : Type 0 where
   pub feeds_read : FeedsRead left journal 1 readers feeds
   pub control_read : CallerRead control_step controls_ahead leftS journal 0 (map command_of final) reader control.lines control.stop
-  pub player_swapped : PlayerSwapped journal cycles player.end
+  pub player_swapped : PlayerSwapped mux journal cycles player.end
   pub others : (k : ℕ) → length readers + 2 ≤ k → entries_of caller_of k journal ≡ []
 
 -- A run: what it did, each caller with its commands, why the jobs that read stopped, and their readers, in the order of the feeds.
 abbrev pub HasRun : {F S : Type 0} → (F → Option (List ℕ)) → (F → ℕ) → (F → F → Type 0) → (S → Option (List ℕ)) → (S → ℕ) → (S → S → Type 0) → Mux → ℕ → List (Reading F) → Reading S → Option (List ℕ) → Option (List ℕ) → Ended F S → Type 0
 HasRun left faults is_same leftS faultsS is_sameS mux cycles feeds control before now end =
     (turns : TableId) × (playing : Sending) × (d : LiveDid left faults is_same leftS faultsS is_sameS turns mux cycles feeds control playing before now end.desk.entries end.sent)
-    × HaveTheirCommands left leftS end.desk.entries cycles feeds control d.feeds d.control d.player d.final
+    × HaveTheirCommands left leftS mux end.desk.entries cycles feeds control d.feeds d.control d.player d.final
     × (end.feeds.items ≡ lines_back d.feeds) × (end.lines ≡ d.control.lines) × (end.control ≡ d.control.stop) × (end.feed ≡ first_stop d.feeds)

@@ -1,5 +1,5 @@
 -- What the jobs of a run leave, each of what it was given.
-use Rattle.std.specs.Prelude.{◌≡◌, ℕ, ◌^◌, ◌<◌, ◌≤◌, List, [], ◌∷◌, Option, Some, None, OnOk, length, slice_index_or}
+use Rattle.std.specs.Prelude.{◌≡◌, ℕ, ◌^◌, ◌<◌, ◌≤◌, true, List, [], ◌∷◌, Option, Some, None, OnOk, length, slice_index_or}
 use Rattle.std.specs.List.{All}
 use Rattle.std.specs.Io.KnownBytes.{IsAtEnd}
 use Rattle.si_causes.specs.Reading.{Reading, text_left}
@@ -54,7 +54,7 @@ pub record PlayerReady (turns : TableId) (job : PlayerJob) (board : Sight) : Typ
 -- it made its swaps, and what it sent is what the air took from mid to now
 pub record PlayerDid (old new : PlayerJob) (mid now : Option (List ℕ)) (faults_before faults_now : ℕ) : Type 0 where
   pub mux : new.mux ≡ old.mux
-  pub played : SwapsPlayed old.mux old.cycles old.pass new.pass old.player new.player mid now new.end
+  pub played : SwapsPlayed true old.mux old.cycles old.pass new.pass old.player new.player mid now new.end
   pub ready : OnOk new.end ((xs : List Aired) × AtEnd xs new.player)
   pub cause : HasAirCause faults_before faults_now new.end
   pub later : faults_before ≤ faults_now

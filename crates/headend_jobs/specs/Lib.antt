@@ -1,3 +1,4 @@
+pub mod Ticking
 pub mod Playing
 pub mod Jobs
 pub mod Whole

@@ -1,5 +1,7 @@
 -- How a run ends.
 use Rattle.std.specs.Prelude.{◌≡◌, ◌⊎◌, ℕ, suc, ◌+◌, ◌<◌, Bool, true, false, ◌||◌, is_some, List, [], ◌∷◌, ◌++◌, map, take, Option, Some, None, Ok, Err, Result}
+use mathlib.Core.List.{IsPrefix}
+use Rattle.si_time.specs.declared.moment.Moment.{Moment}
 use Rattle.mux_model.specs.declared.mux.Mux.{Mux}
 use Rattle.cycle_player.specs.Sending.{Sending}
 use Rattle.journal_model.specs.declared.step.Step.TheVariants.{Publish}
@@ -20,9 +22,12 @@ use Rattle.headend_jobs.specs.declared.jobs.PlayerJob.{PlayerJob}
 use Rattle.headend_jobs.specs.Jobs.{FeedDid, ControlDid}
 use Rattle.desk_hall.specs.Turn.{View, Made, Idle}
 use Rattle.journal_model.specs.Steps.{command_of}
+use Rattle.headend_jobs.specs.Ticking.{Ticked, tick_by, tick_now, tick_of}
 use Rattle.headend_jobs.specs.Playing.{SwapsPlayed, HasPlayedTo, HasPlayedFront, HasPlayedSome}
 use Rattle.headend_jobs.specs.Whole.{JournalDid, final_commands}
 use Rattle.air_sending.specs.AirOf.{AirDid}
+use Rattle.air_sending.specs.Tallied.{IsTallyOf}
+use Rattle.timed_player.specs.Tally.{Tallied}
 
 -- what the passes of the feeds bring, the last job first
 abbrev pub callers_back : {S : Type 0} → List (FeedJob S) → List (Caller Entry)
@@ -80,56 +85,83 @@ abbrev pub halts : {E X Y : Type 0} → Result (Unit {0}) E → Option X → Opt
 halts (Err stop) control feed = true
 halts (Ok u) control feed = is_some control || is_some feed
 
--- The control published, and then swapped twice, or as far as this.
-pub record Went (mux : Mux) (v w : View) (old new : Sending) (mid now : Option (List ℕ)) (result : Result (Unit {0}) SendStop) : Type 0 where
-  pub number : ℕ
+-- The control made the tick that the player's clock tells, published, and then swapped twice, or
+-- as far as this. These swaps have no ticks.
+pub record Went (mux : Mux) (v w : View) (old new : Sending) (mid now : Option (List ℕ))
+    (result : Result (Unit {0}) SendStop) : Type 0 where
   pub between : View
-  pub made : Made Publish (Published number) v between
-  pub played : SwapsPlayed mux 2 between w old new mid now result
+  pub ticked : Ticked (tick_now true old) v between
+  pub number : ℕ
+  pub published : View
+  pub made : Made Publish (Published number) between published
+  pub played : SwapsPlayed false mux 2 published w old new mid now result
 
--- Memory was wanting for the publish.
-pub record Halted (v w : View) (mid now : Option (List ℕ)) (result : Result (Unit {0}) SendStop) : Type 0 where
+-- Memory was wanting for the publish, or for the tick.
+pub record Halted (v w : View) (old : Sending) (mid now : Option (List ℕ))
+    (result : Result (Unit {0}) SendStop) : Type 0 where
   pub memory : result ≡ Err Memory
-  pub idle : Idle v w
+  pub between : View
+  pub ticked : (between ≡ v) ⊎ Ticked (tick_now true old) v between
+  pub idle : Idle between w
   pub same : now ≡ mid
 
 abbrev pub FinalDid : Mux → View → View → Sending → Sending → Option (List ℕ) → Option (List ℕ) → Result (Unit {0}) SendStop → Type 0
-FinalDid mux v w old new mid now result = Went mux v w old new mid now result ⊎ Halted v w mid now result
+FinalDid mux v w old new mid now result =
+    Went mux v w old new mid now result ⊎ Halted v w old mid now result
 
 -- Where no job stopped, the control made its last turns; else it made none.
 abbrev pub LastDid : Bool → Mux → View → View → Sending → Sending → Option (List ℕ) → Option (List ℕ) → Result (Unit {0}) SendStop → Type 0
 LastDid false mux v w old new mid now result = FinalDid mux v w old new mid now result
-LastDid true mux v w old new mid now result = (result ≡ Ok tt) × (w ≡ v) × (now ≡ mid)
+LastDid true mux v w old new mid now result =
+    (result ≡ Ok tt) × (w ≡ v) × (now ≡ mid) × (new ≡ old)
 
 -- Where the player had failed, nothing more is sent.
 abbrev pub SentDid : Result (Unit {0}) SendStop → Bool → Mux → View → View → Sending → Sending → Option (List ℕ) → Option (List ℕ) → Result (Unit {0}) SendStop → Type 0
 SentDid (Ok u) stopped mux v w old new mid now result = LastDid stopped mux v w old new mid now result
-SentDid (Err stop) stopped mux v w old new mid now result = (result ≡ Err stop) × (w ≡ v) × (now ≡ mid)
+SentDid (Err stop) stopped mux v w old new mid now result =
+    (result ≡ Err stop) × (w ≡ v) × (now ≡ mid) × (new ≡ old)
 
 -- ---- what the air has
 
 -- what the air has of the cycles of these entries, where the player ended so
 abbrev pub PlayedAs : Mux → List Entry → List Entry → Sending → Option (List ℕ) → Option (List ℕ) → Result (Unit {0}) SendStop → Type 0
 PlayedAs mux seen entries player before now (Ok u) = HasPlayedTo mux seen entries player before now
-PlayedAs mux seen entries player before now (Err Air) = HasPlayedFront mux seen entries before now
+PlayedAs mux seen entries player before now (Err Air) = HasPlayedFront mux seen entries player before now
 PlayedAs mux seen entries player before now (Err Memory) = HasPlayedSome mux seen entries before now
+
+-- The tally is that of the cycles of the journal, whether the last was sent whole or not. Nothing
+-- is said of it where memory was wanting.
+abbrev pub TallyDid : Mux → List Entry → Tallied → Result (Unit {0}) SendStop → Type 0
+TallyDid mux journal tally (Ok u) = IsTallyOf mux journal tally
+TallyDid mux journal tally (Err Air) = IsTallyOf mux journal tally
+TallyDid mux journal tally (Err Memory) = Unit {0}
 
 -- ---- the end
 
--- what the control made last: where no job stopped and all was sent, a publish, a swap and a swap; these up to the swap whose cycle
--- failed, or as far as memory was there; where one stopped, nothing
-abbrev pub LastMade : Bool → ℕ → List Entry → Result (Unit {0}) SendStop → Type 0
-LastMade true who final sent = final ≡ []
-LastMade false who final (Ok u) = map command_of final ≡ final_commands who
-LastMade false who final (Err Air) = (k : ℕ) × (k < 2) × (map command_of final ≡ take (suc (suc k)) (final_commands who))
-LastMade false who final (Err Memory) = (k : ℕ) × (map command_of final ≡ take k (final_commands who))
+-- What the control made last: where no job stopped and all was sent, this tick, a publish, a swap
+-- and a swap. It made these up to the swap whose cycle failed, or as far as memory was there. Where
+-- a job stopped, it made nothing.
+abbrev pub LastMade : Bool → Option Moment → ℕ → List Entry → Result (Unit {0}) SendStop → Type 0
+LastMade true tick who final sent = final ≡ []
+LastMade false tick who final (Ok u) =
+    map command_of final ≡ tick_by who tick ++ final_commands who
+LastMade false tick who final (Err Air) =
+    (k : ℕ) × (k < 2)
+    × (map command_of final ≡ tick_by who tick ++ take (suc (suc k)) (final_commands who))
+LastMade false tick who final (Err Memory) =
+    (k : ℕ) × (map command_of final ≡ take k (tick_by who tick ++ final_commands who))
 
--- How a run ends, of which all jobs have ended: its journal, and its air.
-pub record EndDid (mux : Mux) (control player : View) (feeds : List (Caller Entry)) (old : Sending) (end : Result (Unit {0}) SendStop) (stopped : Bool) (mid now : Option (List ℕ)) (journal : List Entry) (sent : Result (Unit {0}) SendStop) : Type 0 where
+-- How a run ends, of which all jobs have ended: its journal, its air, and the tally of its cycles.
+pub record EndDid (mux : Mux) (control player : View) (feeds : List (Caller Entry)) (old : Sending) (end : Result (Unit {0}) SendStop) (stopped : Bool) (mid now : Option (List ℕ)) (journal : List Entry) (tally : Tallied)
+    (sent : Result (Unit {0}) SendStop) : Type 0 where
   pub final : List Entry
   pub journal_did : JournalDid control.own player.own feeds final mux journal
-  pub last : LastMade stopped control.own.low final sent
+  pub began : IsPrefix player.seen journal
+  pub last : LastMade stopped (tick_now true old) control.own.low final sent
   pub aired : (before : Option (List ℕ)) → PlayedAs mux player.seen player.own.made old before mid end → AirDid mux journal before now sent
+  pub tallied : (before : Option (List ℕ))
+      → PlayedAs mux player.seen player.own.made old before mid end
+      → TallyDid mux journal tally sent
 
 -- ---- the passes that a run gives out
 
@@ -161,7 +193,7 @@ new_player turns mux cycles player = record { pass = new_pass turns mux 1; mux =
 
 -- A run: each job did what it read, and its commands alone stand under its number in the journal, which is legal; the
 -- control's last turns stand behind them where no job stopped; and the air is that of the journal. Where the player failed, nothing more was
--- sent (`failed`).
+-- sent (`failed`). The journal begins with what the player has seen (`began`).
 pub record LiveDid {F S : Type 0} (left : F → Option (List ℕ)) (faults : F → ℕ) (is_same : F → F → Type 0) (leftS : S → Option (List ℕ)) (faultsS : S → ℕ) (is_sameS : S → S → Type 0)
     (turns : TableId) (mux : Mux) (cycles : ℕ) (readers : List (Reading F)) (reader : Reading S) (playing : Sending) (before now : Option (List ℕ)) (journal : List Entry) (sent : Result (Unit {0}) SendStop) : Type 0 where
   pub feeds : List (FeedJob F)
@@ -170,9 +202,11 @@ pub record LiveDid {F S : Type 0} (left : F → Option (List ℕ)) (faults : F �
   pub control_did : ControlDid leftS faultsS is_sameS (new_control turns mux reader) control
   pub player : PlayerJob
   pub mid : Option (List ℕ)
-  pub player_did : SwapsPlayed mux cycles (new_pass turns mux 1) player.pass playing player.player before mid player.end
+  pub player_did : SwapsPlayed true mux cycles (new_pass turns mux 1) player.pass playing player.player before mid player.end
   pub final : List Entry
   pub journal_did : JournalDid control.pass.own player.pass.own (callers_back feeds) final mux journal
-  pub last : LastMade (halts player.end control.stop (first_stop feeds)) control.pass.own.low final sent
+  pub began : IsPrefix player.pass.seen journal
+  pub last : LastMade (halts player.end control.stop (first_stop feeds))
+      (tick_of mux journal cycles) control.pass.own.low final sent
   pub air : AirDid mux journal before now sent
   pub failed : (stop : SendStop) → player.end ≡ Err stop → sent ≡ Err stop

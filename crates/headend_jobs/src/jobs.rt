@@ -111,6 +111,7 @@ fn run_player<W: Wait, A: Sink, G: Gate>(
         &mut job.player,
         board,
         air,
+        true,
         gate,
     );
 }

@@ -1,4 +1,5 @@
-// The end of a run: the passes come together, the control publishes and swaps, and the hall is closed.
+// The end of a run: the passes come together, the control ticks, publishes and swaps, and the hall
+// is closed.
 ghost use Rattle.std.specs.Prelude.{◌≡◌, ◌≢◌, ◌+◌, ◌≤◌, ◌<◌, ◌++◌, ◌^◌, ℕ, OnOk, OnErr, IfOk, List, [], ◌∷◌, Option, Some, None, Bool, false, ◌||◌, is_some, Err, length, vec_len, vec_capacity};
 ghost use mathlib.Core.List.{IsPrefix};
 ghost use Rattle.mux_model.specs.Sound.{IsSound};
@@ -13,16 +14,17 @@ ghost use Rattle.headend_jobs.specs.Jobs.{AllOf};
 ghost use Rattle.air_sending.specs.OnAir.{HasAirCause, IsPlayerOf};
 ghost use Rattle.air_sending.specs.declared.send.SendStop.{SendStop as AStop};
 ghost use Rattle.headend_jobs.specs.Callers.{HasRun};
+ghost use Rattle.timed_player.specs.Tally.{no_cycles};
 ghost use Rattle.headend_jobs.specs.Posting.{HasPosted, HasPostedAll, HaveServicesOf, KeepsBoard, opening_of, posts_of};
 ghost use Rattle.headend_jobs.specs.Views.{ViewReady, ViewsDid};
 ghost use Rattle.headend_jobs.specs.Back.{lines_back};
-ghost use Rattle.headend_jobs.specs.Live.{callers_back, FinalDid, LastDid, SentDid, EndDid, LiveDid, and_stop, control_stop, feed_stop, first_stop, halts, jobs_back, or_feed, run_stop, sent_stop, new_control, new_player};
+ghost use Rattle.headend_jobs.specs.Live.{callers_back, FinalDid, LastDid, SentDid, EndDid, LiveDid, and_stop, control_stop, feed_stop, first_stop, halts, jobs_back, or_feed, run_stop, sent_stop, new_control, new_player, TallyDid};
 
 use crate::jobs::{ControlJob, FeedJob, PlayerJob, run_side_by_side};
-use crate::player::play;
+use crate::player::{play, tick_first, tick_now};
 use crate::views::ViewJob;
 use air_sending::{SendStop, open_player};
-use cycle_player::CyclePlayer;
+use cycle_player::{CyclePlayer, Tally};
 use desk_core::Desk;
 use desk_hall::{Hall, HallPass, HallState};
 use guide_board::BoardWriter;
@@ -152,7 +154,8 @@ fn first_of(first: Option<LiveStop>, feed: u8, stop: Option<EditStop>) -> Option
     and_stop(first, feed_stop(feed, stop))
 }
 
-/// The control publishes, swaps and swaps again, and a cycle is sent after each swap.
+/// The control makes the tick that the clock tells, publishes, swaps and swaps again, and a cycle
+/// is sent after each swap.
 fn finish<W: Wait, A: Sink, G: Gate>(
     rt: &W,
     alloc: Global,
@@ -176,8 +179,11 @@ fn finish<W: Wait, A: Sink, G: Gate>(
     ensures later { A.faults air.old ≤ A.faults air.new }
     ensures same { A.same air.old air.new }
 {
+    tick_first(rt, hall, pass, tick_now(player, true))?;
     match hall.publish(rt, pass) {
-        Ok(_) => play(rt, alloc, hall, mux, 2, pass, player, board, air, gate),
+        Ok(_) => play(
+            rt, alloc, hall, mux, 2, pass, player, board, air, false, gate,
+        ),
         Err(_) => Err(SendStop::Memory),
     }
 }
@@ -252,11 +258,13 @@ fn finish_after<W: Wait, A: Sink, G: Gate>(
     }
 }
 
-/// The end of a run: its desk, whether all was sent, why each job that reads stopped, and the readers.
+/// The end of a run: its desk, whether all was sent, the tally of its cycles, why each job that
+/// reads stopped, and the readers.
 #[derive(Drop)]
 pub struct Ended<F: Source, S: Source> {
     pub desk: Desk,
     pub sent: Result<(), SendStop>,
+    pub tally: Tally,
     pub control: Option<EditStop>,
     pub feed: Option<LiveStop>,
     pub stop: Option<LiveStop>,
@@ -293,7 +301,7 @@ fn end_live<W: Wait, F: Source, S: Source, A: Sink, G: Gate>(
     requires room { (vec_len back ≡ 0) × (back.items ≡ []) × (length feeds.items ≤ vec_capacity back) }
     ensures feeds { result.feeds.items ≡ lines_back feeds.items }
     ensures lines { result.lines ≡ lines }
-    ensures did { EndDid player.mux pass player.pass (callers_back feeds.items) player.player player.end (halts player.end control (first_stop feeds.items)) (A.written air.old) (A.written air.new) result.desk.entries result.sent }
+    ensures did { EndDid player.mux pass player.pass (callers_back feeds.items) player.player player.end (halts player.end control (first_stop feeds.items)) (A.written air.old) (A.written air.new) result.desk.entries result.tally result.sent }
     ensures mux { result.desk.mux ≡ player.mux }
     ensures posted { OnOk result.sent (board.new.posts ≡ posts_of player.mux result.desk.entries) }
     ensures board { KeepsBoard board.old board.new }
@@ -328,10 +336,12 @@ fn end_live<W: Wait, F: Source, S: Source, A: Sink, G: Gate>(
         gate,
     );
     let stop = run_stop(sent, control, feed);
+    let tally = player.tally();
     let desk = hall.close(pass);
     Ended {
         desk,
         sent,
+        tally,
         control,
         feed,
         stop,
@@ -386,6 +396,7 @@ fn run_jobs<W: Threads + Wait + Sync, F: Source + Send, S: Source + Send, A: Sin
     requires sound { IsSound player.mux }
     requires ready { AtEnd [] player.player }
     requires player_of { IsPlayerOf player.mux player.player }
+    requires counted { player.player.tally ≡ no_cycles }
     requires few { player.cycles < 2 ^ 32 }
     requires opening { board.old.posts ≡ opening_of player.mux ∷ [] }
     requires views { All ViewReady views.old }
@@ -394,6 +405,7 @@ fn run_jobs<W: Threads + Wait + Sync, F: Source + Send, S: Source + Send, A: Sin
     ensures cause { HasAirCause (A.faults air.old) (A.faults air.new) result.sent }
     ensures later { A.faults air.old ≤ A.faults air.new }
     ensures same { A.same air.old air.new }
+    ensures tally { TallyDid player.mux result.desk.entries result.tally result.sent }
     ensures mux { result.desk.mux ≡ player.mux }
     ensures posted { OnOk result.sent (board.new.posts ≡ posts_of player.mux result.desk.entries) }
     ensures board { KeepsBoard board.old board.new }
@@ -419,8 +431,10 @@ fn run_jobs<W: Threads + Wait + Sync, F: Source + Send, S: Source + Send, A: Sin
 }
 
 /// Runs feeds, control, player and viewers side by side over a fresh desk: the control is caller 0, the player caller 1, and feed f
-/// caller f + 1. Before each cycle the publication that it sends is posted on the board; where all was sent, its posts are those of
-/// the journal. `AllocError` is want of memory before any job has started, and leaves the air as it was.
+/// caller f + 1. At a bit rate the player makes the tick that its clock tells before each swap.
+/// Before each cycle the publication that it sends is posted on the board; where all was sent, its
+/// posts are those of the journal. `AllocError` is want of memory before any job has started, and
+/// leaves the air as it was.
 pub fn run_hall<
     W: Threads + Wait + Sync,
     F: Source + Send,
@@ -445,6 +459,8 @@ pub fn run_hall<
     requires opening { board.old.posts ≡ opening_of mux ∷ [] }
     requires views { All ViewReady views.old }
     ensures did { IfOk result (λ end. HasRun F.left F.faults F.same S.left S.faults S.same mux cycles feeds.items control (A.written air.old) (A.written air.new) end) }
+    // Unless memory was wanting, the tally is that of the cycles of the journal.
+    ensures tally { IfOk result (λ end. TallyDid mux end.desk.entries end.tally end.sent) }
     ensures mux { IfOk result (λ end. end.desk.mux ≡ mux) }
     ensures stop { IfOk result (λ end. end.stop ≡ run_stop end.sent end.control end.feed) }
     ensures posted { IfOk result (λ end. OnOk end.sent (board.new.posts ≡ posts_of mux end.desk.entries)) }

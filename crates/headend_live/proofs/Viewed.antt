@@ -1,5 +1,5 @@
 -- The views of a run, from their jobs to their lines.
-use Rattle.std.proofs.Common.{◌≡◌, ◌∙◌, ◌==◌, ne_eqb, ℕ, ◌+◌, ◌<◌, zero, suc, Bool, true, false, List, [], ◌∷◌, ◌++◌, length, map, take, refl, sym, ap, subst, arith, append-nil, append_assoc, vec_len}
+use Rattle.std.proofs.Common.{◌≡◌, ◌≢◌, ◌∙◌, ◌==◌, ne_eqb, ℕ, ◌+◌, ◌<◌, zero, suc, Bool, true, false, List, [], ◌∷◌, ◌++◌, length, map, take, refl, sym, ap, subst, arith, append-nil, append_assoc, vec_len}
 use Rattle.std.specs.Prelude.{Option, Some, None, Ok, Err, Result, OnOk, get_or, remove, slice_index_or}
 use Rattle.std.specs.List.{All, AllByRecursion, AllZip}
 use Rattle.std.proofs.lemmas.List.{map-append, take_more}
@@ -14,7 +14,9 @@ use Rattle.headend_jobs.specs.declared.live.LiveStop.TheVariants as live
 use Rattle.headend_jobs.specs.declared.views.ViewJob.{ViewJob}
 use Rattle.air_sending.specs.declared.send.SendStop.{SendStop}
 use Rattle.air_sending.specs.declared.send.SendStop.TheVariants.{Air, Memory}
-use Rattle.headend_jobs.specs.Live.{and_stop, sent_stop}
+use Rattle.headend_jobs.specs.Live.{TallyDid, and_stop, sent_stop}
+use Rattle.air_sending.specs.Tallied.{IsTallyOf}
+use Rattle.timed_player.specs.Tally.{Tallied}
 use Rattle.headend_jobs.specs.Posting.{KeepsBoard, opening_of, posts_of}
 use Rattle.headend_jobs.specs.Views.{AreSaid, ViewDid, ViewReady, Viewed, ViewsDid}
 use Rattle.headend_jobs.proofs.Posts.{opening_services}
@@ -204,3 +206,11 @@ pub viewed_end : (mux : Mux) (journal : List Entry) (posts : List Post) (count :
 viewed_end mux journal posts count services views sent rest viewers lines none posted same are =
     subst (λ (l : List ℕ). AreViewed (posts_of mux journal) count l viewers lines) same
     (subst (λ (l : List Post). AreViewed l count services viewers lines) (on_ok (posts ≡ posts_of mux journal) sent (all_sent sent rest none) posted) are)
+
+-- where memory was not wanting, the tally is that of the journal
+pub tally_known : (mux : Mux) (journal : List Entry) (tally : Tallied) (wanting : Bool) (sent : Result (Unit {0}) SendStop) (rest stop : Option LiveStop) → stop ≡ watched_stop wanting (and_stop (sent_stop sent) rest)
+    → TallyDid mux journal tally sent → stop ≢ Some live.Memory → IsTallyOf mux journal tally
+tally_known mux journal tally wanting (Ok u) rest stop is did other = did
+tally_known mux journal tally wanting (Err Air) rest stop is did other = did
+tally_known mux journal tally true (Err Memory) rest stop is did other = absurd (other is)
+tally_known mux journal tally false (Err Memory) rest stop is did other = absurd (other is)

@@ -53,7 +53,8 @@ watched_stop wanting stop = and_stop (wanting_stop wanting) stop
 -- ---- a run, as its caller knows it
 
 -- What a run did. Each job read what was ahead of it, and made just its commands, each once, in order, whatever other jobs met (`commands`);
--- the journal is legal, has no other callers, and ends with the control's last turns, which are made where no job stopped (`did`). The
+-- the journal is legal, has no other callers, and ends with the control's last turns, which are made where no job stopped (`did`).
+-- At a bit rate the player's commands are its swaps, each after the tick that its clock tells (`ticks_of`). The
 -- air has the cycles of that journal, or a front of them. The stop is want of memory, whoever met it, or else the first in the order
 -- air, control, feeds by number. The readers are as the jobs left them, in the order of the feeds. Where the air tells its bytes, the
 -- completions are those of its whole packets from one on, or a front of them where the stop is want of memory. The guide is told exactly where
@@ -66,7 +67,7 @@ pub record WatchedRan {F S : Type 0} (left : F → Option (List ℕ)) (faults : 
   pub playing : Sending
   pub sent : Result (Unit {0}) SendStop
   pub did : LiveDid left faults is_same leftS faultsS is_sameS turns mux plan.cycles feeds control playing before now end.desk.entries sent
-  pub commands : HaveTheirCommands left leftS end.desk.entries plan.cycles feeds control did.feeds did.control did.player did.final
+  pub commands : HaveTheirCommands left leftS mux end.desk.entries plan.cycles feeds control did.feeds did.control did.player did.final
   pub feeds_are : end.feeds.items ≡ lines_back did.feeds
   pub control_is : end.control ≡ did.control.lines
   pub cause : HasAirCause faults_before faults_now sent

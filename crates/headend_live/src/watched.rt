@@ -19,10 +19,13 @@ ghost use Rattle.headend_live.specs.Viewing.{AreViewed, IsAsked, IsServiceOf, as
 ghost use Rattle.air_sending.specs.HeardKeys.{HaveFewKeys};
 ghost use Rattle.air_sending.specs.SentAir.{OfEachAir};
 ghost use Rattle.headend_live.specs.Watched.{WatchedRan, wanting_stop, watched_stop};
-ghost use Rattle.headend_jobs.specs.Live.{run_stop};
+ghost use Rattle.headend_jobs.specs.Live.{run_stop, TallyDid};
+ghost use Rattle.headend_jobs.specs.declared.live.LiveStop.TheVariants as live;
+ghost use Rattle.air_sending.specs.Tallied.{IsTallyOf};
 
 use crate::views::{Numbers, ViewLines, Views, gather, open_views};
 use air_monitor::{DoneLines, Monitor, MonitorLog};
+use cycle_player::Tally;
 use desk_core::Desk;
 use guide_board::{BoardWriter, Viewers};
 use guide_receiver::Heard;
@@ -44,11 +47,13 @@ pub struct LivePlan {
 /// The readers of the feeds, in the order of their numbers.
 pub type Readers<F> = Vec<LineReader<F>>;
 
-/// What a run leaves: the desk with its journal, the completions that were heard, the guide that was heard where nothing stopped it, the
-/// lines of the views and the viewer of each, why it stopped, and the readers as its jobs left them.
+/// What a run leaves: the desk with its journal, the tally of its cycles, the completions that were
+/// heard, the guide that was heard where nothing stopped it, the lines of the views and the viewer
+/// of each, why it stopped, and the readers as its jobs left them.
 #[derive(Drop)]
 pub struct LiveEnd<F: Source, S: Source> {
     pub desk: Desk,
+    pub tally: Tally,
     pub dones: DoneLines,
     pub heard: Option<Heard>,
     pub views: ViewLines,
@@ -181,6 +186,7 @@ fn run_through<
     requires opening { board.old.posts ≡ opening_of mux ∷ [] }
     requires views { All ViewReady views.old }
     ensures did { IfOk result (λ end. HasRun F.left F.faults F.same S.left S.faults S.same mux cycles feeds.items control (A.written monitor.old.air.now) (A.written monitor.new.air.now) end) }
+    ensures tally { IfOk result (λ end. TallyDid mux end.desk.entries end.tally end.sent) }
     ensures mux { IfOk result (λ end. end.desk.mux ≡ mux) }
     ensures stop { IfOk result (λ end. end.stop ≡ run_stop end.sent end.control end.feed) }
     ensures posted { IfOk result (λ end. OnOk end.sent (board.new.posts ≡ posts_of mux end.desk.entries)) }
@@ -222,6 +228,7 @@ fn run_and_hear<
     requires opening { board.old.posts ≡ opening_of mux ∷ [] }
     requires views { All ViewReady views.old }
     ensures did { IfOk result.end (λ end. HasRun F.left F.faults F.same S.left S.faults S.same mux cycles feeds.items control (A.written air.old) (A.written air.new) end) }
+    ensures tally { IfOk result.end (λ end. TallyDid mux end.desk.entries end.tally end.sent) }
     ensures mux { IfOk result.end (λ end. end.desk.mux ≡ mux) }
     ensures stop { IfOk result.end (λ end. end.stop ≡ run_stop end.sent end.control end.feed) }
     ensures posted { IfOk result.end (λ end. OnOk end.sent (board.new.posts ≡ posts_of mux end.desk.entries)) }
@@ -249,11 +256,14 @@ fn run_and_hear<
     Ran { end, heard }
 }
 
-/// Runs feeds, control, player and viewers side by side over a fresh desk, in threads where they can be had: the control is caller 0,
-/// the player caller 1, and feed f caller f + 1. The player makes its swaps, each followed by its whole cycle; the others do the lines
-/// that their readers still have. A job that meets a fault ends, and the others go on. Where none met one, caller 0 then publishes,
-/// swaps, and swaps again, with a cycle behind each swap. The packets of the air are heard from packet `plan.join` on; where nothing
-/// stopped the run, the guide of these packets is told.
+/// Runs feeds, control, player and viewers side by side over a fresh desk, in threads where they
+/// can be had: the control is caller 0, the player caller 1, and feed f caller f + 1. The player
+/// makes its swaps, each followed by its whole cycle. At a bit rate it makes before each swap the
+/// tick that its clock tells; there is none while the clock stands at 0. The others do the lines
+/// that their readers still have. A job that meets a fault ends, and the others go on. Where none
+/// met one, caller 0 then makes such a tick, publishes, swaps, and swaps again, with a cycle after
+/// each swap. The packets of the air are heard from packet `plan.join` on; where nothing stopped
+/// the run, the guide of these packets is told.
 ///
 /// Each publication is posted on a board before its cycle, the multiplex's own before any. For each of `plan.views` a viewer asks the
 /// board for the present and the following event of its service, as often as there are cycles. Where nothing stopped the run, it then
@@ -300,6 +310,9 @@ pub fn run_live<
     // And of its packets no receiver hears more keys than it keeps.
     ensures keys { IfOk result (λ end. IsSoundWithIds mux → HasTypedEdits end.desk.entries
         → OfEachAir mux.rate (airings mux end.desk.entries) (A.written air.old) (A.written air.new) (λ cycles packets. HaveFewKeys packets)) }
+    // The tally is that of the cycles of the journal, unless memory was wanting.
+    ensures tally { IfOk result (λ end. end.stop ≢ Some live.Memory
+        → IsTallyOf mux end.desk.entries end.tally) }
     ensures memory { OnErr result (air.new ≡ air.old) }
 {
     let LivePlan {
@@ -330,6 +343,7 @@ pub fn run_live<
             let views = shown_views(alloc, stop, views);
             Ok(LiveEnd {
                 desk: end.desk,
+                tally: end.tally,
                 dones: heard.dones,
                 heard: guide,
                 views: views.lines,

@@ -6,7 +6,7 @@ use Rattle.mux_model.specs.declared.mux.Mux.{Mux}
 use Rattle.desk_core.specs.Journal.{Legal}
 use Rattle.turn_lock.proofs.Lists.{prefix_trans}
 use Rattle.desk_hall.specs.Turn.{View, caller_of}
-use Rattle.headend_jobs.specs.Live.{callers_back, first_stop}
+use Rattle.headend_jobs.specs.Live.{callers_back, first_stop, halts, EndDid}
 use Rattle.desk_hall.proofs.Turns.{some_same}
 use Rattle.headend_jobs.proofs.ManyJobs.{finished_is, has_same}
 use Rattle.headend_jobs.proofs.Ending.{ended}
@@ -27,7 +27,9 @@ returns-clause-did g c =
     let w = c.finish_after-sent.new.pass in
     let on : w.on ≡ Some c.args.player.mux = c.finish_after-sent.ensures.stands ∙ c.join_all-feed.ensures.stands ∙ ap (λ (z : View). z.on) c.join.ensures.joined ∙ c.requires.stands in
     let mux : c.close-desk.result.mux ≡ c.args.player.mux = some_same c.close-desk.result.mux c.args.player.mux (sym c.close-desk.ensures.stands ∙ on) in
-    ended c.args.player.mux c.args.pass c.args.player.pass (callers_back c.args.feeds.items) c.args.player.player (g.A.Sink.written c.args.air.now) (g.A.Sink.written c.finish_after-sent.new.air) c.close-desk.result.entries v w
+    let counted = c.tally-tally.ensures in
+    subst (λ t. EndDid c.args.player.mux c.args.pass c.args.player.pass (callers_back c.args.feeds.items) c.args.player.player c.args.player.end (halts c.args.player.end c.args.control (first_stop c.args.feeds.items)) (g.A.Sink.written c.args.air.now) (g.A.Sink.written c.finish_after-sent.new.air) c.close-desk.result.entries t c.finish_after-sent.result) (sym counted)
+    (ended c.args.player.mux c.args.pass c.args.player.pass (callers_back c.args.feeds.items) c.args.player.player (g.A.Sink.written c.args.air.now) (g.A.Sink.written c.finish_after-sent.new.air) c.close-desk.result.entries v w
     (record {
       closes = c.close-desk.ensures.closes;
       legal = subst (λ (m : Mux). Legal m c.close-desk.result.entries) mux c.close-desk.ensures.legal;
@@ -39,7 +41,7 @@ returns-clause-did g c =
       apart = c.requires.apart;
     })
     c.finish_after-sent.new.player c.args.player.end c.any_stop-stopped.result c.args.control (first_stop c.args.feeds.items) c.finish_after-sent.result
-    (c.any_stop-stopped.ensures ∙ ap (λ (o : Option LiveStop). is_some c.args.control || is_some o) c.join_all-feed.ensures.stop) c.finish_after-sent.ensures.did
+    (c.any_stop-stopped.ensures ∙ ap (λ (o : Option LiveStop). is_some c.args.control || is_some o) c.join_all-feed.ensures.stop) c.finish_after-sent.ensures.did)
 
 pub returns-clause-posted : goal.returns-clause-posted
 returns-clause-posted g c =

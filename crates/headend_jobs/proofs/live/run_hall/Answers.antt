@@ -8,10 +8,11 @@ use Rattle.headend_jobs.specs.declared.jobs.ControlJob.{ControlJob}
 use Rattle.desk_hall.specs.Turn.{View}
 use Rattle.headend_jobs.specs.Posting.{opening_of}
 use Rattle.headend_jobs.specs.Back.{lines_back}
-use Rattle.headend_jobs.specs.Live.{LiveDid, first_stop, jobs_back}
+use Rattle.headend_jobs.specs.Live.{LiveDid, TallyDid, first_stop, jobs_back}
 use Rattle.headend_jobs.proofs.HandedBack.{jobs_len}
 use Rattle.headend_jobs.proofs.CallerFacts.{callers_have}
-use Rattle.headend_jobs.proofs.Running.{cut_done, kept_new, cut_new}
+use Rattle.air_sending.specs.OnAir.{IsPlayerOf}
+use Rattle.headend_jobs.proofs.Running.{cut_done, kept_new, cut_new, nothing_played}
 use Rattle.headend_jobs.proofs.live.run_hall.Goals as goal
 
 pub split-own-requires-clause-turns : goal.split-own-requires-clause-turns
@@ -65,7 +66,9 @@ returns-clause-did g c =
       t,
       c.in_ok-player.player,
       ran.0,
-      callers_have g.F.Source.left g.F.Source.faults g.F.Source.same g.S.Source.left g.S.Source.faults g.S.Source.same t c.args.mux c.args.cycles c.args.feeds.items c.args.control c.in_ok-player.player (g.A.Sink.written c.args.air.now) (g.A.Sink.written c.run_jobs.new.air) c.run_jobs.result.desk.entries c.run_jobs.result.sent ran.0,
+      callers_have g.F.Source.left g.F.Source.faults g.F.Source.same g.S.Source.left g.S.Source.faults g.S.Source.same t c.args.mux c.args.cycles c.args.feeds.items c.args.control c.in_ok-player.player (g.A.Sink.written c.args.air.now) (g.A.Sink.written c.run_jobs.new.air) c.run_jobs.result.desk.entries c.run_jobs.result.sent ran.0
+          (nothing_played c.args.mux [] c.in_ok-player.player (g.A.Sink.written c.args.air.now) c.in_ok-player.ensures.at_end
+          (subst (λ (m : Mux). IsPlayerOf m c.in_ok-player.player) c.in_ok-copy.ensures c.in_ok-player.ensures.player_of) c.in_ok-player.ensures.tally),
       ran.1,
       ran.2,
       ran.3,
@@ -78,3 +81,7 @@ run_jobs-requires-clause-room g c κs within =
     let lens : c.len-2.result ≡ length c.args.feeds.items = c.len-2.ensures ∙ c.args.feeds.ok.0 in
     let cut = cut_done c.turns.result.now.turns t c.args.mux c.args.feeds.items c.len-2.result c.in_ok-hall.pass c.cut_all.new.pass c.in_ok-jobs.jobs.items (ap (λ (l : Lock). l.turns) c.turns.ensures) lens c.in_ok-hall.ensures.1 c.in_ok-jobs.ensures.cut in
     (c.in_ok-back.ensures.len, c.in_ok-back.ensures.items, omega (arith, ap length cut.1, jobs_len t c.args.mux 1 c.args.feeds.items, c.in_ok-back.ensures.exact, c.len.ensures, c.args.feeds.ok.0))
+
+pub returns-clause-tally : goal.returns-clause-tally
+returns-clause-tally g c =
+    subst (λ m. TallyDid m c.run_jobs.result.desk.entries c.run_jobs.result.tally c.run_jobs.result.sent) c.in_ok-copy.ensures c.run_jobs.ensures.tally

@@ -1,4 +1,4 @@
-use Rattle.std.proofs.Common.{◌≡◌, ◌≢◌, ◌∙◌, ap, sym, subst, arith, length, List, [], ◌∷◌}
+use Rattle.std.proofs.Common.{true, ◌≡◌, ◌≢◌, ◌∙◌, ap, sym, subst, arith, length, List, [], ◌∷◌}
 use Rattle.std.specs.List.{AllByRecursion}
 use Rattle.journal_model.specs.declared.step.Entry.{Entry}
 use Rattle.turn_lock.specs.Knowledge.{HasAny}
@@ -10,13 +10,14 @@ use Rattle.desk_hall.specs.Turn.{View}
 use Rattle.headend_jobs.specs.Jobs.{AllOf, ControlDid}
 use Rattle.headend_jobs.specs.Playing.{SwapsPlayed}
 use Rattle.headend_jobs.specs.Whole.{SwapsNot}
-use Rattle.std.specs.Prelude.{OnOk}
+use Rattle.std.specs.Prelude.{OnOk, Option, ℕ}
 use Rattle.headend_jobs.specs.Back.{lines_back}
 use Rattle.headend_jobs.specs.Posting.{HasPostedAll, HaveServicesOf, posts_of}
 use Rattle.headend_jobs.proofs.Posts.{keeps_then, ok_then, opening_services, posted_all, services_kept}
-use Rattle.headend_jobs.specs.Live.{callers_back, first_stop, halts, EndDid}
+use Rattle.headend_jobs.specs.Live.{callers_back, first_stop, halts, PlayedAs, TallyDid, EndDid}
 use Rattle.headend_jobs.proofs.Cutting.{new_turns, written_back, feeds_turns}
-use Rattle.headend_jobs.proofs.Running.{control_lone, player_lone, ran_from, have, swaps_are, apart_are, cause_all, first_played}
+use Rattle.headend_jobs.proofs.Running.{control_lone, player_lone, ran_from, have, swaps_are, apart_are, cause_all, first_played, last_told}
+use Rattle.headend_jobs.proofs.Ending.{airs_are}
 use Rattle.headend_jobs.proofs.live.run_jobs.Goals as goal
 
 pub run_side_by_side-requires-clause-others : goal.run_side_by_side-requires-clause-others
@@ -84,8 +85,8 @@ returns-clause-did g c = λ readers is.
     let back = written_back c.args.feeds.len c.args.feeds.items r.new.feeds c.as_mut_slice.result.now c.args.feeds.ok.0 r.ensures.others.len c.as_mut_slice.ensures.value in
     let end = c.end_live.ensures.did in
     let pass = ap (λ (j : PlayerJob). j.pass) c.requires.player in
-    let did = subst (λ (l : List (FeedJob g.row.F.Denot)). EndDid r.new.player.mux r.new.control.pass r.new.player.pass (callers_back l) r.new.player.player r.new.player.end (halts r.new.player.end r.new.control.stop (first_stop l)) (g.A.Sink.written r.new.air) (g.A.Sink.written c.end_live.new.air) c.end_live.result.desk.entries c.end_live.result.sent) back end in
-    let here = subst (λ m. EndDid m r.new.control.pass r.new.player.pass (callers_back r.new.feeds) r.new.player.player r.new.player.end (halts r.new.player.end r.new.control.stop (first_stop r.new.feeds)) (g.A.Sink.written r.new.air) (g.A.Sink.written c.end_live.new.air) c.end_live.result.desk.entries c.end_live.result.sent) r.ensures.player.mux did in (
+    let did = subst (λ (l : List (FeedJob g.row.F.Denot)). EndDid r.new.player.mux r.new.control.pass r.new.player.pass (callers_back l) r.new.player.player r.new.player.end (halts r.new.player.end r.new.control.stop (first_stop l)) (g.A.Sink.written r.new.air) (g.A.Sink.written c.end_live.new.air) c.end_live.result.desk.entries c.end_live.result.tally c.end_live.result.sent) back end in
+    let here = subst (λ m. EndDid m r.new.control.pass r.new.player.pass (callers_back r.new.feeds) r.new.player.player r.new.player.end (halts r.new.player.end r.new.control.stop (first_stop r.new.feeds)) (g.A.Sink.written r.new.air) (g.A.Sink.written c.end_live.new.air) c.end_live.result.desk.entries c.end_live.result.tally c.end_live.result.sent) r.ensures.player.mux did in (
       record {
         feeds = r.new.feeds;
         feeds_ran = ran_from g.F.Source.left g.F.Source.faults g.F.Source.same c.args.hall.turns mux readers c.as_mut_slice.result.now r.new.feeds (c.as_mut_slice.ensures.value ∙ is) r.ensures.others.len r.ensures.others.each;
@@ -93,13 +94,15 @@ returns-clause-did g c = λ readers is.
         control_did = subst (λ (j : ControlJob g.row.S.Denot). ControlDid g.S.Source.left g.S.Source.faults g.S.Source.same j r.new.control) c.requires.control r.ensures.others.control;
         player = r.new.player;
         mid = g.A.Sink.written r.new.air;
-        player_did = subst (λ (v : View). SwapsPlayed mux c.args.player.cycles v r.new.player.pass c.args.player.player r.new.player.player (g.A.Sink.written c.args.air.now) (g.A.Sink.written r.new.air) r.new.player.end) pass r.ensures.player.played;
+        player_did = subst (λ (v : View). SwapsPlayed true mux c.args.player.cycles v r.new.player.pass c.args.player.player r.new.player.player (g.A.Sink.written c.args.air.now) (g.A.Sink.written r.new.air) r.new.player.end) pass r.ensures.player.played;
         final = here.final;
         journal_did = here.journal_did;
-        last = here.last;
+        began = here.began;
+        last = last_told mux c.args.player.pass r.new.player.pass c.args.player.player r.new.player.player (g.A.Sink.written c.args.air.now) (g.A.Sink.written r.new.air) (ap (λ (v : View). v.own.made) pass) c.requires.ready c.requires.player_of c.requires.counted
+            c.end_live.result.desk.entries here.final (airs_are here.journal_did) here.began c.args.player.cycles r.new.player.end r.new.control.stop (first_stop r.new.feeds) r.new.control.pass.own.low c.end_live.result.sent r.ensures.player.played here.last;
         failed = c.end_live.ensures.failed;
         air = here.aired (g.A.Sink.written c.args.air.now)
-            (first_played mux c.args.player.pass r.new.player.pass c.args.player.player r.new.player.player (g.A.Sink.written c.args.air.now) (g.A.Sink.written r.new.air) (ap (λ (v : View). v.own.made) pass) c.requires.ready c.requires.player_of c.args.player.cycles r.new.player.end r.ensures.player.played);
+            (first_played mux c.args.player.pass r.new.player.pass c.args.player.player r.new.player.player (g.A.Sink.written c.args.air.now) (g.A.Sink.written r.new.air) (ap (λ (v : View). v.own.made) pass) c.requires.ready c.requires.player_of c.requires.counted c.args.player.cycles r.new.player.end r.ensures.player.played);
       },
       c.end_live.ensures.feeds ∙ ap (λ (l : List (FeedJob g.row.F.Denot)). lines_back l) back,
       c.end_live.ensures.lines,
@@ -150,3 +153,14 @@ returns-clause-posted g c =
 
 pub returns-clause-board : goal.returns-clause-board
 returns-clause-board g c = keeps_then c.args.board.now c.run_side_by_side.new.board c.end_live.new.board c.run_side_by_side.ensures.posted.board c.end_live.ensures.board
+
+pub returns-clause-tally : goal.returns-clause-tally
+returns-clause-tally g c =
+    let r = c.run_side_by_side in
+    let mux = c.args.player.mux in
+    let pass = ap (λ (j : PlayerJob). j.pass) c.requires.player in
+    let back = written_back c.args.feeds.len c.args.feeds.items r.new.feeds c.as_mut_slice.result.now c.args.feeds.ok.0 r.ensures.others.len c.as_mut_slice.ensures.value in
+    let tallied = subst (λ m. (before : Option (List ℕ)) → PlayedAs m r.new.player.pass.seen r.new.player.pass.own.made r.new.player.player before (g.A.Sink.written r.new.air) r.new.player.end → TallyDid m c.end_live.result.desk.entries c.end_live.result.tally c.end_live.result.sent)
+    r.ensures.player.mux c.end_live.ensures.did.tallied in
+    tallied (g.A.Sink.written c.args.air.now)
+    (first_played mux c.args.player.pass r.new.player.pass c.args.player.player r.new.player.player (g.A.Sink.written c.args.air.now) (g.A.Sink.written r.new.air) (ap (λ (v : View). v.own.made) pass) c.requires.ready c.requires.player_of c.requires.counted c.args.player.cycles r.new.player.end r.ensures.player.played)

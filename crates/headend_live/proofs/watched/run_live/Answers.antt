@@ -15,7 +15,7 @@ use Rattle.journal_air.specs.Air.{airings, mux_form}
 use Rattle.air_sending.proofs.Keys.{sent_keys}
 use Rattle.air_sending.proofs.Sent.{did_all, did_sent, rate_some, sent_coherent}
 use Rattle.air_sending.proofs.Spaced.{airings_fit, airings_timed, sent_spaced, sent_timed}
-use Rattle.headend_live.proofs.Viewed.{all_sent, no_stop, stop_twice, viewed_end, views_asked, views_ready}
+use Rattle.headend_live.proofs.Viewed.{all_sent, no_stop, stop_twice, tally_known, viewed_end, views_asked, views_ready}
 use Rattle.headend_live.proofs.Watching.{heard_of_air, heard_whole, or_wanting}
 use Rattle.headend_live.proofs.watched.run_live.Goals as goal
 
@@ -141,3 +141,13 @@ views_and_stop-views-requires-clause-asked g c =
     (subst (λ (l : List ℕ). AllZip (IsNew c.in_ok-board.board c.args.plan.cycles) l c.in_ok-board.jobs.items) c.as_slice.ensures c.in_ok-board.ensures.jobs)
     (subst (λ (l : List ViewJob). ViewsDid l ran.new.views) c.as_mut_slice.ensures.value views_did) in
     (c.args.plan.cycles, subst (AllByRecursion (IsAsked ran.new.board c.args.plan.cycles)) (sym back) asked.0)
+
+pub returns-in-Ok-clause-tally : goal.returns-in-Ok-clause-tally
+returns-in-Ok-clause-tally g c =
+    let end = c.in-Ok.end in
+    let stopped = c.guide_and_stop-guide.ensures.stop in
+    let views = c.views_and_stop-views.ensures.stop in
+    let both = stop_twice views.0 stopped.0 end.stop in
+    let stop = rw c.in-Ok.is at c.run_and_hear-end.ensures.stop in
+    tally_known c.args.mux end.desk.entries end.tally both.0 end.sent _ _ (stopped.2 ∙ ap (watched_stop stopped.0) views.1 ∙ both.1 ∙ ap (watched_stop both.0) stop)
+    (rw c.in-Ok.is at c.run_and_hear-end.ensures.tally)
