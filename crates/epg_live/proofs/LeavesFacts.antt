@@ -1,10 +1,11 @@
 -- What a run leaves, from what it met and how its report ended: what it sent is heard as it should be, and its monitor shows what is on air at its end.
-use Rattle.std.proofs.Common.{◌≡◌, ◌≤◌, inl, inr, ℕ, true, false, List, length, refl, sym, ap, ◌∙◌, subst, map, drop}
+use Rattle.std.proofs.Common.{◌≡◌, ◌≤◌, ◌++◌, ◌∷◌, [], append_assoc, inl, inr, ℕ, true, false, List, length, refl, sym, ap, ◌∙◌, subst, map, drop}
 use Rattle.std.specs.Prelude.{Option, Some, None, IfSome, IsSome, Ok, Err, Result}
 use Rattle.std.specs.List.{AllByRecursion}
 use Rattle.headend_live.specs.declared.watched.LivePlan.{LivePlan}
 use Rattle.si_causes.specs.Opening.{Files}
 use Rattle.mux_model.specs.declared.mux.Mux.{Mux}
+use Rattle.si_time.specs.declared.moment.Moment.{Moment}
 use Rattle.mux_model.proofs.FedFacts.{fed_named}
 use Rattle.mux_config.proofs.FineLines.{described_texts_are_kept, whole_descriptions_are_sound}
 use Rattle.input_lines.specs.declared.stop.EditStop.{EditStop}
@@ -17,7 +18,7 @@ use Rattle.air_monitor.proofs.Packets.{told_taken}
 use Rattle.guide_screen.specs.declared.need.Heard.{Heard}
 use Rattle.guide_receiver.specs.Guides.{guide_of}
 use Rattle.journal_screen.specs.Shown.{IsAsRead}
-use Rattle.journal_screen.specs.Last.{IsShownLast}
+use Rattle.journal_screen.specs.Last.{EndsPublished, IsShownLast}
 use Rattle.journal_screen.proofs.Last.{journals_last}
 use Rattle.headend_jobs.specs.declared.live.LiveStop.{LiveStop}
 use Rattle.air_sending.specs.declared.send.SendStop.{SendStop}
@@ -27,6 +28,7 @@ use Rattle.headend_jobs.specs.Live.{LastMade, and_stop, control_stop, halts, run
 use Rattle.headend_live.specs.Watched.{guide_of_air}
 use Rattle.air_sending.proofs.Sent.{air_sent}
 use Rattle.journal_text.specs.Back.{IsOfLines, IsWritten}
+use Rattle.headend_jobs.specs.Ticking.{tick_by, tick_of}
 use Rattle.headend_jobs.specs.Whole.{final_commands}
 use Rattle.epg_report.specs.declared.status.Status.{Status}
 use Rattle.epg_report.specs.declared.status.Status.TheVariants.{Done, Memory}
@@ -45,15 +47,27 @@ use Rattle.epg_live.proofs.TypedFacts.{run_of_lines, run_typed}
 -- ---- a run that nothing stopped
 
 -- the control made its last turns, where nothing stopped the run
-pub last_made : (player sent : Result (Unit {0}) SendStop) (control : Option EditStop) (feeds : Option LiveStop) (final : List Entry)
+pub last_made : (told : Option Moment) (player sent : Result (Unit {0}) SendStop) (control : Option EditStop) (feeds : Option LiveStop) (final : List Entry)
     → ((stop : SendStop) → player ≡ Err stop → sent ≡ Err stop) → sent_stop sent ≡ None → control ≡ None → feeds ≡ None
-    → LastMade (halts player control feeds) 0 final sent → map command_of final ≡ final_commands 0
-last_made player (Err send.Air) control feeds final failed all_sent none fed last = cc all_sent
-last_made player (Err send.Memory) control feeds final failed all_sent none fed last = cc all_sent
-last_made (Err stop) (Ok u) control feeds final failed all_sent none fed last = cc (failed stop refl)
-last_made (Ok v) (Ok u) (Some stop) feeds final failed all_sent none fed last = cc none
-last_made (Ok v) (Ok u) None (Some stop) final failed all_sent none fed last = cc fed
-last_made (Ok v) (Ok u) None None final failed all_sent none fed last = last
+    → LastMade (halts player control feeds) told 0 final sent → map command_of final ≡ tick_by 0 told ++ final_commands 0
+last_made told player (Err send.Air) control feeds final failed all_sent none fed last = cc all_sent
+last_made told player (Err send.Memory) control feeds final failed all_sent none fed last = cc all_sent
+last_made told (Err stop) (Ok u) control feeds final failed all_sent none fed last = cc (failed stop refl)
+last_made told (Ok v) (Ok u) (Some stop) feeds final failed all_sent none fed last = cc none
+last_made told (Ok v) (Ok u) None (Some stop) final failed all_sent none fed last = cc fed
+last_made told (Ok v) (Ok u) None None final failed all_sent none fed last = last
+
+-- A journal that ends with a tick, if any, and then a publish and two swaps, ends with these.
+pub ends_published : (told : Option Moment) (journal front final : List Entry) → journal ≡ front ++ final
+    → map command_of final ≡ tick_by 0 told ++ final_commands 0 → EndsPublished 0 journal
+ends_published None journal front final ends commands = record { front = front; final = final; ends = ends; commands = commands }
+ends_published (Some at) journal front [] ends commands = cc commands
+ends_published (Some at) journal front (e ∷ final) ends commands = record {
+  front = front ++ e ∷ [];
+  final = final;
+  ends = ends ∙ sym (append_assoc front (e ∷ []) final);
+  commands = cc commands;
+}
 
 -- and the air took all cycles
 all_aired : (mux : Mux) (journal : List Entry) (before now : Option (List ℕ)) (sent : Result (Unit {0}) SendStop) → sent_stop sent ≡ None → AirDid mux journal before now sent
@@ -100,13 +114,9 @@ module _ (mux : Mux) (plan : LivePlan) (text : List ℕ) (left : Option (List �
       let was = ran.was_heard sent knows in
       let taken = told_taken before now sent was.taken (air_bytes air.cycles) knows was.gave air.bytes in
       let guide = told_guide observed.guide (guide_of_air plan.join was.taken) (ran.told.1 done) was.guide in
-      journals_last 0 plan.join mux journal as_read ran.journal_is.legal
-      (record {
-        front = ran.journal_is.front;
-        final = ran.final;
-        ends = ran.journal_is.ends;
-        commands = last_made ran.player ran.sent ran.control_stop fed ran.final ran.failed stops.0 (no_control ran.control_stop jobs.0) jobs.1 ran.last;
-      })
+      let told = tick_of mux journal plan.cycles in
+      let last = last_made told ran.player ran.sent ran.control_stop fed ran.final ran.failed stops.0 (no_control ran.control_stop jobs.0) jobs.1 ran.last in
+      journals_last 0 plan.join mux journal as_read ran.journal_is.legal (ends_published told journal ran.journal_is.front ran.final ran.journal_is.ends last)
       air.cycles air.is_air before now air.bytes observed.guide (guide ∙ ap (λ (bytes : List ℕ). Some (guide_of (drop plan.join (whole_packets bytes)))) taken)
 
 -- ---- the run

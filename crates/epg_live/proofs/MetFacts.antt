@@ -195,6 +195,7 @@ ran_from paths plan text files left old mid now feeds_old feeds_now before after
     served = ran.served;
     viewed = ran.viewed;
     unviewed = ran.unviewed;
+    rated = ran.rated;
   },
 )
 

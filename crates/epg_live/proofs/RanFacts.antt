@@ -1,5 +1,5 @@
 -- From what a run did to what it leaves of the texts of its files.
-use Rattle.std.proofs.Common.{◌≡◌, ◌⊎◌, inl, inr, ℕ, ◌+◌, ◌<◌, arith, List, [], ◌∷◌, ◌++◌, map, refl, sym, ap, ◌∙◌, subst}
+use Rattle.std.proofs.Common.{◌≡◌, ◌≢◌, ◌⊎◌, inl, inr, ℕ, ◌+◌, ◌<◌, arith, List, [], ◌∷◌, ◌++◌, map, refl, sym, ap, ◌∙◌, subst}
 use Rattle.std.specs.Prelude.{Option, Some, None, Ok, Err, Result}
 use Rattle.si_causes.specs.Causes.{Rose}
 use Rattle.si_causes.specs.Opening.{Files, GivesFile, file_at}
@@ -7,6 +7,7 @@ use Rattle.si_causes.specs.Reading.{Reading, text_left}
 use Rattle.si_causes.specs.declared.stop.ReadStop.TheVariants.{Failed, TooLong as Overlong}
 use Rattle.si_causes.proofs.TextFacts.{fresh_text}
 use Rattle.mux_model.specs.declared.mux.Mux.{Mux}
+use Rattle.si_time.specs.declared.moment.Moment.{Moment}
 use Rattle.input_lines.specs.declared.stop.EditStop.{EditStop}
 use Rattle.input_lines.specs.declared.stop.EditStop.TheVariants as edit
 use Rattle.input_lines.specs.Ahead.{ahead}
@@ -17,14 +18,18 @@ use Rattle.desk_hall.specs.Reads.{HasReadCause, commands_by, edit_step, ToldDid}
 use Rattle.turn_lock.specs.Knowledge.{TableId}
 use Rattle.headend_jobs.specs.declared.jobs.FeedJob.{FeedJob}
 use Rattle.headend_jobs.specs.declared.live.LiveStop.{LiveStop}
+use Rattle.headend_jobs.specs.declared.live.LiveStop.TheVariants as live
+use Rattle.air_sending.specs.Tallied.{IsTallyOf}
 use Rattle.air_sending.specs.declared.send.SendStop.{SendStop}
 use Rattle.headend_live.specs.declared.watched.LivePlan.{LivePlan}
 use Rattle.headend_live.specs.declared.watched.LiveEnd.{LiveEnd}
 use Rattle.headend_jobs.specs.Back.{lines_back}
 use Rattle.headend_jobs.specs.Callers.{CallerRead, CommandsAre, FeedsRead}
 use Rattle.headend_jobs.specs.Live.{FeedsRan, LastMade, first_stop, halts, or_feed, run_stop}
+use Rattle.headend_jobs.specs.Ticking.{tick_of}
 use Rattle.headend_live.specs.Watched.{WatchedRan, watched_stop}
 use Rattle.std.specs.Io.KnownBytes.{IsAtEnd}
+use Rattle.epg_report.specs.Rates.{rate_line}
 use Rattle.epg_report.specs.declared.status.Status.{Status}
 use Rattle.epg_report.specs.declared.status.Status.TheVariants.{Done, Memory}
 use Rattle.epg_live.specs.Views.{unserved}
@@ -121,24 +126,26 @@ module _ {F : Type 0} (left : F → Option (List ℕ)) (faults : F → ℕ) (is_
 -- ---- the run
 
 -- where the control stopped it made no last turns
-halted_none : {E X Y : Type 0} (player : Result (Unit {0}) E) (stop : X) (feeds : Option Y) (who : ℕ) (final : List Entry) (sent : Result (Unit {0}) SendStop) → LastMade (halts player (Some stop) feeds) who final sent → final ≡ []
-halted_none (Ok u) stop feeds who final sent last = last
-halted_none (Err e) stop feeds who final sent last = last
+halted_none : {E X Y : Type 0} (told : Option Moment) (player : Result (Unit {0}) E) (stop : X) (feeds : Option Y) (who : ℕ) (final : List Entry) (sent : Result (Unit {0}) SendStop) → LastMade (halts player (Some stop) feeds) told who final sent → final ≡ []
+halted_none told (Ok u) stop feeds who final sent last = last
+halted_none told (Err e) stop feeds who final sent last = last
 
 module _ {F S : Type 0} (left : F → Option (List ℕ)) (faults : F → ℕ) (is_same : F → F → Type 0) (leftS : S → Option (List ℕ)) (faultsS : S → ℕ) (is_sameS : S → S → Type 0) where
   pub jobs_ran : (mux : Mux) (plan : LivePlan) (feeds : List (Reading F)) (control : Reading S) (text : List ℕ) (paths : List (List ℕ)) (files : Files) (before now : Option (List ℕ)) (air_before air_now feeds_before feeds_now : ℕ)
       (end : LiveEnd F S) (source : S) (met : Status) → WatchedRan left faults is_same leftS faultsS is_sameS mux plan feeds control before now air_before air_now end → AreOpened left faults (Some files) paths feeds → control.stop ≡ None
       → HasRead leftS text mux control → IfFailed faults (Rose feeds_before feeds_now) end.feeds.items → met ≡ live_status end.stop → source ≡ end.control.source → unserved mux plan.views ≡ None
-      → (met ≡ Memory) ⊎ Ran paths plan text files (leftS source) (read_faults (faultsS control.source) feeds_before) (read_faults (faultsS source) feeds_now) before now end.desk.entries (record { dones = end.dones; views = end.views; guide = end.heard }) met
-  jobs_ran mux plan feeds control text paths files before now air_before air_now feeds_before feeds_now end source met ran opened going read rose is back served =
+      → (end.stop ≢ Some live.Memory → IsTallyOf mux end.desk.entries end.tally)
+      → (met ≡ Memory) ⊎ Ran paths plan text files (leftS source) (read_faults (faultsS control.source) feeds_before) (read_faults (faultsS source) feeds_now) before now end.desk.entries (record { dones = end.dones; views = end.views; guide = end.heard; rate = mux.rate; tally = end.tally }) met
+  jobs_ran mux plan feeds control text paths files before now air_before air_now feeds_before feeds_now end source met ran opened going read rose is back served tallied =
       let jobs = ran.did.feeds in
       let stop = ran.did.control.stop in
       let then = map command_of ran.did.final in
+      let tick = tick_of mux end.desk.entries plan.cycles in
       let first : first_stop jobs ≡ feeds_stop None 1 (stops_back jobs) = first_is jobs ∙ feeds_first left faults is_same files end.desk.entries None 1 feeds jobs ran.commands.feeds_read in
       let low : ran.did.control.pass.own.low ≡ 0 = ap (λ z. z.own.low) ran.did.control_did.did.1.gained in
       let source_is : source ≡ ran.did.control.lines.source = back ∙ ap (λ (r : Reading S). r.source) ran.control_is in
-      let none : stop ≡ Some (edit.Read Failed) → then ≡ [] = (λ e. ap (map command_of) (halted_none ran.did.player.end (edit.Read Failed) (first_stop jobs) ran.did.control.pass.own.low ran.did.final ran.sent
-      (subst (λ (o : Option EditStop). LastMade (halts ran.did.player.end o (first_stop jobs)) ran.did.control.pass.own.low ran.did.final ran.sent) e ran.did.last))) in
+      let none : stop ≡ Some (edit.Read Failed) → then ≡ [] = (λ e. ap (map command_of) (halted_none tick ran.did.player.end (edit.Read Failed) (first_stop jobs) ran.did.control.pass.own.low ran.did.final ran.sent
+      (subst (λ (o : Option EditStop). LastMade (halts ran.did.player.end o (first_stop jobs)) tick ran.did.control.pass.own.low ran.did.final ran.sent) e ran.did.last))) in
       elim (memory_or end.stop) [
         | inl memory ↦ inl (is ∙ ap live_status memory)
         | inr other ↦ inr (
@@ -162,8 +169,8 @@ module _ {F S : Type 0} (left : F → Option (List ℕ)) (faults : F → ℕ) (i
               front = ran.did.journal_did.front;
               ends = ran.did.journal_did.ends;
             };
-            last = subst (λ (o : Option LiveStop). LastMade (halts ran.did.player.end stop o) 0 ran.did.final ran.sent) first
-                (subst (λ (k : ℕ). LastMade (halts ran.did.player.end stop (first_stop jobs)) k ran.did.final ran.sent) low ran.did.last);
+            last = subst (λ (o : Option LiveStop). LastMade (halts ran.did.player.end stop o) tick 0 ran.did.final ran.sent) first
+                (subst (λ (k : ℕ). LastMade (halts ran.did.player.end stop (first_stop jobs)) tick k ran.did.final ran.sent) low ran.did.last);
             failed = ran.did.failed;
             status_is = is ∙ ap live_status (unless_wanting ran.wanting end.stop (run_stop ran.sent stop (first_stop jobs)) ran.stop_is other ∙ ap (run_stop ran.sent stop) first);
             control_cause = subst (λ (s : S). HasReadCause (faultsS control.source) (faultsS s) stop) (sym source_is) (ran.did.control_did.cause going);
@@ -174,6 +181,7 @@ module _ {F S : Type 0} (left : F → Option (List ℕ)) (faults : F → ℕ) (i
             served = served;
             viewed = λ done. (end.viewers, ran.viewed (done_none end.stop (sym is ∙ done)));
             unviewed = λ other. ran.unviewed (λ none. other (is ∙ ap live_status none));
+            rated = ap (rate_line mux.rate) (tallied other);
           },
         )
       ]

@@ -17,6 +17,9 @@ use Rattle.guide_text.specs.Guides.{guide_text}
 use Rattle.air_monitor.specs.declared.done_line.DoneLine.{DoneLine}
 use Rattle.headend_live.specs.declared.views.ViewLine.{ViewLine}
 use Rattle.epg_report.specs.declared.status.Status.{Status}
+use Rattle.timed_player.specs.Tally.{Tallied}
+use Rattle.epg_report.specs.Rates.{rate_line}
+use Rattle.epg_live.specs.Runs.{rate_text}
 use Rattle.epg_report.specs.Texts.{fault_line, fault_lines, fault_text, has_line}
 use Rattle.epg_play.proofs.AgainFacts.{journals-again}
 use Rattle.epg_live.specs.declared.reporting.Observed.{Observed}
@@ -54,11 +57,17 @@ fault_begins : (shown : Bool) (text : List ℕ) → BeginsNoEntry (if shown then
 fault_begins true text = refl
 fault_begins false text = tt
 
+rate_begins : (rate : Option ℕ) (tally : Tallied) → BeginsNoEntry (rate_line rate tally)
+rate_begins None tally = tt
+rate_begins (Some rate) tally = refl
+
 begins : (o : Observed) (s : Status) → BeginsNoEntry (observed_text o ++ fault_lines s)
 begins o s =
     joined (observed_text o) (fault_lines s)
+    (joined (done_text o.dones ++ views_text o.views ++ optional guide_text o.guide) (rate_text o)
     (joined (done_text o.dones ++ views_text o.views) (optional guide_text o.guide)
     (joined (done_text o.dones) (views_text o.views) (dones_begin o.dones) (views_begin o.views)) (guide_begins o.guide))
+    (rate_begins o.rate o.tally))
     (fault_begins (has_line s) (fault_text s))
 
 pub live_reports_tell_journals : LiveReportsTellJournals

@@ -8,6 +8,7 @@ use Rattle.si_lists.proofs.Parts.{lt_or}
 use Rattle.si_causes.specs.Opening.{Files}
 use Rattle.si_causes.specs.declared.stop.ReadStop.TheVariants.{Failed, TooLong as Overlong}
 use Rattle.mux_model.specs.declared.mux.Mux.{Mux}
+use Rattle.si_time.specs.declared.moment.Moment.{Moment}
 use Rattle.mux_model.specs.Sound.{IsSound}
 use Rattle.journal_model.specs.declared.edit.Edit.{Edit}
 use Rattle.journal_model.specs.declared.edit.Edit.TheVariants.{Put, Withdraw, Clear, Name, Day}
@@ -34,7 +35,7 @@ use Rattle.headend_jobs.specs.Callers.{CommandsAre, PlayerSwapped}
 use Rattle.journal_air.specs.Laws.{HasTypedEdits}
 use Rattle.journal_text.specs.Back.{IsOfLines, IsWritten}
 use Rattle.headend_jobs.specs.Live.{LastMade}
-use Rattle.headend_jobs.specs.Playing.{swaps_by}
+use Rattle.headend_jobs.specs.Ticking.{tick_by, tick_of, ticks_of, turns_by}
 use Rattle.headend_jobs.specs.Whole.{final_commands}
 use Rattle.headend_jobs.proofs.TypedJournals.{IsReadStep, journal_typed, journal_window}
 use Rattle.headend_jobs.proofs.WholeJournal.{of_all}
@@ -42,6 +43,8 @@ use Rattle.mux_config.specs.Texts.{ahead_of}
 use Rattle.epg_live.specs.Runs.{CallerDid, FeedsDid, IsJournal}
 use Rattle.epg_live.proofs.ControlFacts.{controls_within}
 use Rattle.epg_live.proofs.ShapeFacts.{ahead_shaped}
+use Rattle.cycle_player.specs.Making.{IsToldTick}
+use Rattle.headend_jobs.proofs.Ticking.{tick_has, tick_is_within, ticks_within, turns_have}
 
 first_of : {X : Type 0} (P : X → Type 0) (k : ℕ) (xs : List X) → AllByRecursion P xs → AllByRecursion P (take k xs)
 first_of P k xs all = recursion_from_All P (take k xs) (All-take P k xs (All-from_recursion P xs all))
@@ -84,17 +87,27 @@ module _ (P : Step → Type 0) (IsFed : ℕ → Type 0) (has : HasSteps P IsFed)
   edits_have who feed is [] all = tt
   edits_have who feed is (e ∷ edits) all = (has.fed feed e is all.0, edits_have who feed is edits all.1)
 
-  swaps_have : (n : ℕ) → HaveIt (swaps_by 1 n)
-  swaps_have zero = tt
-  swaps_have (suc n) = (has.swapped, swaps_have n)
+  both_have : (xs ys : List Command) → HaveIt xs → HaveIt ys → HaveIt (xs ++ ys)
+  both_have xs ys = all_append (λ (c : Command). P c.1) xs ys
 
-  final_have : (stopped : Bool) (final : List Entry) (sent : Result (Unit {0}) SendStop) → LastMade stopped 0 final sent → HaveIt (map command_of final)
-  final_have true final sent last = subst (λ (es : List Entry). HaveIt (map command_of es)) (sym last) tt
-  final_have false final (Ok u) last = subst HaveIt (sym last) (has.published, (has.swapped, (has.swapped, tt)))
-  final_have false final (Err send.Air) (k, less, last) =
-      subst HaveIt (sym last) (first_of (λ (c : Command). P c.1) (suc (suc k)) (final_commands 0) (has.published, (has.swapped, (has.swapped, tt))))
-  final_have false final (Err send.Memory) (k, last) =
-      subst HaveIt (sym last) (first_of (λ (c : Command). P c.1) k (final_commands 0) (has.published, (has.swapped, (has.swapped, tt))))
+  front_has : (k : ℕ) (xs : List Command) → HaveIt xs → HaveIt (take k xs)
+  front_has k xs = first_of (λ (c : Command). P c.1) k xs
+
+  tick_have : (who : ℕ) (told : Option Moment) → IsToldTick told → HaveIt (tick_by who told)
+  tick_have who = tick_has (λ (c : Command). P c.1) who (λ at is. has.control (tick at) is) has.swapped
+
+  published_has : HaveIt (final_commands 0)
+  published_has = (has.published, (has.swapped, (has.swapped, tt)))
+
+  final_have : (stopped : Bool) (t : Option Moment) (final : List Entry) (sent : Result (Unit {0}) SendStop) → IsToldTick t → LastMade stopped t 0 final sent → HaveIt (map command_of final)
+  final_have true t final sent is last = subst (λ (es : List Entry). HaveIt (map command_of es)) (sym last) tt
+  final_have false t final (Ok u) is last = subst HaveIt (sym last) (both_have (tick_by 0 t) (final_commands 0) (tick_have 0 t is) published_has)
+  final_have false t final (Err send.Air) is (k, less, last) =
+      let front = front_has (suc (suc k)) (final_commands 0) published_has in
+      subst HaveIt (sym last) (both_have (tick_by 0 t) (take (suc (suc k)) (final_commands 0)) (tick_have 0 t is) front)
+  final_have false t final (Err send.Memory) is (k, last) =
+      let all = both_have (tick_by 0 t) (final_commands 0) (tick_have 0 t is) published_has in
+      subst HaveIt (sym last) (front_has k (tick_by 0 t ++ final_commands 0) all)
 
   -- ---- what each caller did
 
@@ -112,10 +125,18 @@ module _ (P : Step → Type 0) (IsFed : ℕ → Type 0) (has : HasSteps P IsFed)
     reader_has all (Some (Read Failed)) every (k, did) = of_values (take k all.0) (first_of Q k all.0 every) did
     reader_has all (Some Memory) every (k, did) = of_values (take k all.0) (first_of Q k all.0 every) did
 
-  player_has : (journal : List Entry) (n : ℕ) (player : Result (Unit {0}) SendStop) → PlayerSwapped journal n player → CallerHas journal 1
-  player_has journal n (Ok u) did = caller_has journal 1 (swaps_by 1 n) did (swaps_have n)
-  player_has journal n (Err send.Air) (k, lt, did) = caller_has journal 1 (swaps_by 1 (suc k)) did (swaps_have (suc k))
-  player_has journal n (Err send.Memory) (k, le, did) = caller_has journal 1 (swaps_by 1 k) did (swaps_have k)
+  swaps_have : (mux : Mux) (journal : List Entry) (n : ℕ) → HaveIt (turns_by 1 (ticks_of mux journal n))
+  swaps_have mux journal n =
+      turns_have (λ (c : Command). P c.1) 1 (λ at is. has.control (tick at) is) has.swapped (ticks_of mux journal n) (ticks_within mux journal n)
+
+  player_has : (mux : Mux) (journal : List Entry) (n : ℕ) (player : Result (Unit {0}) SendStop) → PlayerSwapped mux journal n player → CallerHas journal 1
+  player_has mux journal n (Ok u) did = caller_has journal 1 (turns_by 1 (ticks_of mux journal n)) did (swaps_have mux journal n)
+  player_has mux journal n (Err send.Air) (k, lt, did) = caller_has journal 1 (turns_by 1 (ticks_of mux journal (suc k))) did (swaps_have mux journal (suc k))
+  player_has mux journal n (Err send.Memory) (k, more, le, did) =
+      let last = tick_by 1 (tick_of mux journal k) in
+      caller_has journal 1 (turns_by 1 (ticks_of mux journal k) ++ take more last) did
+      (both_have (turns_by 1 (ticks_of mux journal k)) (take more last) (swaps_have mux journal k)
+      (front_has more last (tick_have 1 (tick_of mux journal k) (tick_is_within mux journal k))))
 
   read_edits : (lines : Ahead) → AllByRecursion IsReadEdit (edits_ahead lines).0
   read_edits lines = all_two IsTypedEdit IsShaped IsReadEdit (λ e typed shaped. (typed, shaped)) (edits_ahead lines).0 (ahead_typed lines).1 (ahead_shaped lines)
@@ -141,7 +162,8 @@ module _ (P : Step → Type 0) (IsFed : ℕ → Type 0) (has : HasSteps P IsFed)
 
   module _ (mux : Mux) (cycles : ℕ) (text : List ℕ) (left : Option (List ℕ)) (behind : Ahead) (paths : List (List ℕ)) (files : Files) (journal : List Entry)
       (player : Result (Unit {0}) SendStop) (control_stop : Option EditStop) (feed_stops : List (Option EditStop)) (final : List Entry) (stopped : Bool) (sent : Result (Unit {0}) SendStop)
-      (is : IsJournal mux cycles text left behind paths files journal player control_stop feed_stops final) (last : LastMade stopped 0 final sent)
+      (is : IsJournal mux cycles text left behind paths files journal player control_stop feed_stops final)
+      (last : LastMade stopped (tick_of mux journal cycles) 0 final sent)
       (fed : (g : ℕ) → g ≤ length paths → IsFed g) where
     other_has : (k : ℕ) → 1 < k → (1 + length paths < k) ⊎ (k ≤ 1 + length paths) → CallerHas journal k
     other_has k lt (inl far) = subst (AllByRecursion (λ (e : Entry). P e.step)) (sym (is.others k (omega (arith, far)))) tt
@@ -150,8 +172,8 @@ module _ (P : Step → Type 0) (IsFed : ℕ → Type 0) (has : HasSteps P IsFed)
     each_has : (k : ℕ) → CallerHas journal k
     each_has zero =
         reader_has IsControlWithin journal 0 control_step (map command_of final) controls_have
-        (final_have stopped final sent last) (controls_ahead behind) control_stop (controls_within behind) is.control_did
-    each_has (suc zero) = player_has journal cycles player is.player_did
+        (final_have stopped (tick_of mux journal cycles) final sent (tick_is_within mux journal cycles) last) (controls_ahead behind) control_stop (controls_within behind) is.control_did
+    each_has (suc zero) = player_has mux journal cycles player is.player_did
     each_has (suc (suc k)) = other_has (suc (suc k)) (omega arith) (lt_or (1 + length paths) (suc (suc k)))
 
 -- ---- steps that were read
@@ -192,7 +214,8 @@ line_steps = record {
 
 module _ (mux : Mux) (cycles : ℕ) (text : List ℕ) (left : Option (List ℕ)) (behind : Ahead) (paths : List (List ℕ)) (files : Files) (journal : List Entry)
     (player : Result (Unit {0}) SendStop) (control_stop : Option EditStop) (feed_stops : List (Option EditStop)) (final : List Entry) (stopped : Bool) (sent : Result (Unit {0}) SendStop)
-    (is : IsJournal mux cycles text left behind paths files journal player control_stop feed_stops final) (last : LastMade stopped 0 final sent) where
+    (is : IsJournal mux cycles text left behind paths files journal player control_stop feed_stops final)
+    (last : LastMade stopped (tick_of mux journal cycles) 0 final sent) where
   pub run_typed : HasTypedEdits journal × AllByRecursion (λ (e : Entry). IsStepInWindow e.step) journal
   run_typed =
       let each = each_has IsReadStep (λ feed. Unit {0}) read_steps mux cycles text left behind paths files journal player control_stop feed_stops final stopped sent is last (λ g le. tt) in

@@ -18,7 +18,7 @@ use Rattle.epg_live.specs.declared.reporting.Observed.{Observed}
 use Rattle.epg_live.specs.declared.reporting.LiveResult.{LiveResult}
 use Rattle.epg_live.specs.Opened.{HasTried}
 use Rattle.epg_live.specs.Views.{views_text}
-use Rattle.epg_live.specs.Runs.{NoJobs, Ran, ReadFaults, nothing_observed}
+use Rattle.epg_live.specs.Runs.{NoJobs, Ran, ReadFaults, nothing_observed, rate_text}
 
 -- ---- the report
 
@@ -30,9 +30,12 @@ line_done line = record { key = line.key; version = line.version }
 abbrev pub done_text : List DoneLine → List ℕ
 done_text dones = flat_map (λ (line : DoneLine). done_line (at_packet line.packet (line_done line))) dones
 
--- those lines, then those of the views, and the text of the guide, where there is one
+-- those lines, then those of the views, and the text of the guide, where there is one; last the
+-- line on the bit rate, where there is one
 abbrev pub observed_text : Observed → List ℕ
-observed_text observed = done_text observed.dones ++ views_text observed.views ++ optional guide_text observed.guide
+observed_text observed =
+    done_text observed.dones ++ views_text observed.views ++ optional guide_text observed.guide
+    ++ rate_text observed
 
 -- the journal, and what was observed
 abbrev pub run_text : List Entry → Observed → List ℕ

@@ -40,7 +40,8 @@ pub record LeftLive (paths : List (List ℕ)) (plan : LivePlan) (text : List ℕ
   -- the opener was asked for all paths where jobs ran, and for none where the description ended the run
   pub ran : HasMetAsking paths plan text files input.new (read_faults input.faults_old opener.read_old) (read_faults input.faults_new opener.read_new)
       opener.tried_old opener.tried_new air.old air.new journal observed met
-  -- the report is the text of the journal, of the completions, of the views and of the guide, and a fault line, if there is one
+  -- the report is the text of the journal, of the completions, of the views and of the guide, then
+  -- the line on the bit rate, and the line of the fault, where there are such lines
   pub reported : ReportEnds met (run_text journal observed) report status
   -- and tells which journal it is (`LiveReportsTellJournals`): the edits of that were read from lines
   pub of_lines : AllByRecursion IsOfLines journal

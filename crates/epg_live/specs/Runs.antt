@@ -27,7 +27,10 @@ use Rattle.headend_jobs.specs.Callers.{CommandsAre, PlayerSwapped}
 use Rattle.air_sending.specs.AirOf.{AirDid}
 use Rattle.headend_jobs.specs.Live.{LastMade, halts, run_stop}
 use Rattle.headend_jobs.specs.Posting.{posts_of}
+use Rattle.headend_jobs.specs.Ticking.{tick_of}
 use Rattle.headend_live.specs.Watched.{guide_of_air}
+use Rattle.timed_player.specs.Tally.{no_cycles}
+use Rattle.epg_report.specs.Rates.{rate_line, rate_lines}
 use Rattle.epg_report.specs.declared.status.Status.{Status}
 use Rattle.epg_report.specs.declared.status.Status.TheVariants.{Done, BadMux, TooLong, OpenFault, ReadFault, NoView}
 use Rattle.epg_report.specs.declared.status.Origin.TheVariants.{Input}
@@ -74,16 +77,22 @@ FeedsDid files journal f (path ∷ paths) (stop ∷ stops) =
 -- ---- a run whose jobs started
 
 abbrev pub nothing_observed : Observed
-nothing_observed = record { dones = []; views = []; guide = None }
+nothing_observed = record { dones = []; views = []; guide = None; rate = None; tally = no_cycles }
 
--- The journal: each caller's commands stand in it once, in order, whatever other jobs met, each with the reply of a desk of one thread
--- (`legal`), and no one else's. Caller 0 is the control, caller 1 the player. `final` is what the control made behind all jobs.
+-- the line on the bit rate that was observed
+abbrev pub rate_text : Observed → List ℕ
+rate_text observed = rate_line observed.rate observed.tally
+
+-- The journal: each caller's commands stand in it once, in order, whatever other jobs met, each
+-- with the reply of a desk of one thread (`legal`), and no one else's. Caller 0 is the control.
+-- Caller 1 is the player: at a bit rate it makes a tick before each swap, at the moment that the
+-- clock of the air tells then (`PlayerSwapped`). `final` is what the control made after all jobs.
 pub record IsJournal (mux : Mux) (cycles : ℕ) (text : List ℕ) (left : Option (List ℕ)) (behind : Ahead) (paths : List (List ℕ)) (files : Files) (journal : List Entry)
     (player : Result (Unit {0}) SendStop) (control_stop : Option EditStop) (feed_stops : List (Option EditStop)) (final : List Entry) : Type 0 where
   pub legal : Legal mux journal
   pub control_did : CallerDid journal 0 control_step (controls_ahead behind) (map command_of final) control_stop
   pub control_took : ControlTook text left mux journal control_stop
-  pub player_did : PlayerSwapped journal cycles player
+  pub player_did : PlayerSwapped mux journal cycles player
   pub feeds_did : FeedsDid files journal 1 paths feed_stops
   pub others : (k : ℕ) → length paths + 2 ≤ k → entries_of caller_of k journal ≡ []
   pub front : List Entry
@@ -105,11 +114,14 @@ pub record ReadFaults : Type 0 where
 abbrev pub read_faults : ℕ → ℕ → ReadFaults
 read_faults input feeds = record { input = input; feeds = feeds }
 
--- The jobs started, and all have ended. The status is that of the first stop in the order air, control, feeds by number; Done exactly
--- where there is none, and then the control's publish, swap and swap end the journal (`last`). `sent` says how the last cycle ended; where the
--- player failed, that was its last (`failed`). A failed read stopped the control only where the input's count of faults rose, whatever other jobs
--- met (`control_cause`), and a feed only where the opener's count of read faults rose (`causes`). A guide is told exactly with Done (`told`); what
--- it and the completions are is known where the air tells its bytes.
+-- The jobs started, and all have ended. The status is that of the first stop in the order air,
+-- control, feeds by number; Done exactly where there is none, and then the control's publish,
+-- swap and swap end the journal, at a bit rate with a tick before them (`last`). `sent` says how
+-- the last cycle ended; where the player failed, that was its last (`failed`). A failed read
+-- stopped the control only where the input's count of faults rose, whatever other jobs met
+-- (`control_cause`), and a feed only where the opener's count of read faults rose (`causes`). A
+-- guide is told exactly with Done (`told`); what it and the completions are is known where the
+-- air tells its bytes. The line on the bit rate is that of the cycles of the journal (`rated`).
 pub record JobsRan (mux : Mux) (plan : LivePlan) (text : List ℕ) (left : Option (List ℕ)) (behind : Ahead) (paths : List (List ℕ)) (files : Files) (faults_before faults_now : ReadFaults) (before now : Option (List ℕ))
     (journal : List Entry) (observed : Observed) (status : Status) : Type 0 where
   pub player : Result (Unit {0}) SendStop
@@ -118,7 +130,8 @@ pub record JobsRan (mux : Mux) (plan : LivePlan) (text : List ℕ) (left : Optio
   pub feed_stops : List (Option EditStop)
   pub final : List Entry
   pub journal_is : IsJournal mux plan.cycles text left behind paths files journal player control_stop feed_stops final
-  pub last : LastMade (halts player control_stop (feeds_stop None 1 feed_stops)) 0 final sent
+  pub last : LastMade (halts player control_stop (feeds_stop None 1 feed_stops))
+      (tick_of mux journal plan.cycles) 0 final sent
   pub failed : (stop : SendStop) → player ≡ Err stop → sent ≡ Err stop
   pub status_is : status ≡ live_status (run_stop sent control_stop (feeds_stop None 1 feed_stops))
   pub control_cause : HasReadCause faults_before.input faults_now.input control_stop
@@ -129,6 +142,7 @@ pub record JobsRan (mux : Mux) (plan : LivePlan) (text : List ℕ) (left : Optio
   pub served : unserved mux plan.views ≡ None
   pub viewed : status ≡ Done → HaveViews (posts_of mux journal) (plan.cycles + 1) plan.views observed.views
   pub unviewed : status ≢ Done → observed.views ≡ []
+  pub rated : rate_text observed ≡ rate_lines mux journal
 
 -- jobs ran over the multiplex of the text
 abbrev pub Ran : List (List ℕ) → LivePlan → List ℕ → Files → Option (List ℕ) → ReadFaults → ReadFaults → Option (List ℕ) → Option (List ℕ) → List Entry → Observed → Status → Type 0

@@ -11,8 +11,9 @@ ghost use Rattle.epg_live.specs.Ends.{done_text, entries_of, observed_text, line
 ghost use Rattle.epg_live.specs.Runs.{nothing_observed};
 ghost use Rattle.epg_live.specs.Views.{id_text, view_head, view_text, views_text};
 
+use cycle_player::Tally;
 use desk_core::Desk;
-use epg_report::{Status, ended, journal_of, out_of_memory, put_fault_line};
+use epg_report::{Status, ended, journal_of, out_of_memory, put_fault_line, put_rate_line};
 use guide_receiver::{DoneKey, write_done};
 use guide_text::print_heard;
 use headend_live::{DoneLine, DoneLines, Heard, Slot, ViewLine, ViewLines};
@@ -20,13 +21,16 @@ use si_base::put_number;
 use si_causes::{Sink, write_all};
 use std::alloc::{AllocError, Global};
 
-/// What was observed of a run: the completions that were heard of its air, and where no fault was met the lines of its views, and the
-/// guide that was heard.
+/// What was observed of a run: the completions that were heard of its air, and where no fault was
+/// met the lines of its views, and the guide that was heard. At a bit rate also that rate, and
+/// the tally of the cycles.
 #[derive(Drop)]
 pub struct Observed {
     pub dones: DoneLines,
     pub views: ViewLines,
     pub guide: Option<Heard>,
+    pub rate: Option<u32>,
+    pub tally: Tally,
 }
 
 impl Observed {
@@ -38,6 +42,8 @@ impl Observed {
             dones: DoneLines::new(alloc),
             views: ViewLines::new(alloc),
             guide: None,
+            rate: None,
+            tally: Tally::none(),
         }
     }
 }
@@ -121,13 +127,15 @@ fn put_views(alloc: Global, out: &mut Vec<u8>, lines: &[ViewLine]) -> Result<(),
     Ok(())
 }
 
-// Appends the lines of what was observed: the completions, the views, and then the guide.
+// Appends the lines of what was observed: the completions, the views, the guide, and then the bit
+// rate.
 fn put_observed(alloc: Global, out: &mut Vec<u8>, observed: &Observed) -> Result<(), AllocError>
     ensures { OnOk result (out.new.items ≡ out.old.items ++ observed_text observed.now) }
 {
     put_dones(alloc, out, observed.dones.as_slice())?;
     put_views(alloc, out, observed.views.as_slice())?;
-    put_guide(alloc, out, &observed.guide)
+    put_guide(alloc, out, &observed.guide)?;
+    put_rate_line(alloc, out, observed.rate, observed.tally)
 }
 
 // The whole report.

@@ -167,12 +167,15 @@ fn run_jobs<W: Threads + Wait + Sync, O: Opener, S: Source + Send, A: Sink + Sen
     ensures tried { O.tried opener.new ≡ O.tried opener.old }
     ensures faults { O.faults opener.new ≡ O.faults opener.old }
 {
+    let rate = mux.rate;
     let end = run_live(rt, alloc, mux, plan, feeds, lines, air, gate)?;
     run.desk = Some(end.desk);
     run.observed = Observed {
         dones: end.dones,
         views: end.views,
         guide: end.heard,
+        rate,
+        tally: end.tally,
     };
     run.met = live_status(end.stop);
     close_feeds(opener, end.feeds);

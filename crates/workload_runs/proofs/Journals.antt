@@ -14,7 +14,7 @@ use Rattle.script_lines.specs.Edits.{edits_of}
 use Rattle.desk_core.specs.Journal.{Legal}
 use Rattle.desk_hall.specs.Reads.{commands_by, control_step, controls_ahead, edit_step}
 use Rattle.headend_jobs.specs.Callers.{CommandsAre}
-use Rattle.headend_jobs.specs.Playing.{swaps_by}
+use Rattle.headend_jobs.specs.Ticking.{tick_by, tick_of, ticks_of, turns_by}
 use Rattle.headend_jobs.specs.Whole.{final_commands}
 use Rattle.headend_live.specs.declared.watched.LivePlan.{LivePlan}
 use Rattle.epg_report.specs.declared.status.Status.TheVariants.{Done}
@@ -83,12 +83,16 @@ module _ (number : ℕ) (first second text : List ℕ) (files : Files) (have : H
   jobs_ran mux behind whole ran =
       let same = same_mux mux soak_mux behind control_behind (described text) is whole in
       let stops = done_stops ran.sent ran.control_stop (feeds_stop None 1 ran.feed_stops) (sym ran.status_is) in
-      let last = last_made ran.player ran.sent ran.control_stop (feeds_stop None 1 ran.feed_stops) ran.final ran.failed stops.0 stops.1 stops.2 ran.last in
+      let last : map command_of ran.final ≡ tick_by 0 (tick_of mux journal plan.cycles) ++ final_commands 0 =
+      last_made (tick_of mux journal plan.cycles) ran.player ran.sent ran.control_stop (feeds_stop None 1 ran.feed_stops) ran.final ran.failed stops.0 stops.1 stops.2 ran.last in
       let fed = feeds_did number first second files journal ran.feed_stops have stops.2 ran.journal_is.feeds_did in
       record {
         legal = subst (λ (m : Mux). Legal m journal) same.0 ran.journal_is.legal;
-        control = control_did journal ran.final behind control_behind soak_controls ran.control_stop same.1 control_read stops.1 last ran.journal_is.control_did;
-        player = subst (λ (n : ℕ). CommandsAre journal 1 (swaps_by 1 n)) three (all_swapped ran.player ran.sent journal plan.cycles ran.failed stops.0 ran.journal_is.player_did);
+        control = control_did journal ran.final behind control_behind soak_controls ran.control_stop same.1 control_read stops.1
+            (subst (λ (m : Mux). map command_of ran.final ≡ tick_by 0 (tick_of m journal plan.cycles) ++ final_commands 0) same.0 last) ran.journal_is.control_did;
+        player = subst (λ (n : ℕ). CommandsAre journal 1 (turns_by 1 (ticks_of soak_mux journal n))) three
+            (subst (λ (m : Mux). CommandsAre journal 1 (turns_by 1 (ticks_of m journal plan.cycles))) same.0
+            (all_swapped mux ran.player ran.sent journal plan.cycles ran.failed stops.0 ran.journal_is.player_did));
         first = fed.0;
         second = fed.1;
         others = ran.journal_is.others;

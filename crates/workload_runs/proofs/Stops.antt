@@ -1,6 +1,7 @@
 -- A run that met Done: no job stopped.
 use Rattle.std.proofs.Common.{◌≡◌, ℕ, List, [], ◌∷◌, refl}
 use Rattle.std.specs.Prelude.{Option, Some, None, Ok, Err, Result}
+use Rattle.mux_model.specs.declared.mux.Mux.{Mux}
 use Rattle.input_lines.specs.declared.stop.EditStop.{EditStop}
 use Rattle.input_lines.specs.declared.stop.EditStop.TheVariants as edit
 use Rattle.journal_model.specs.declared.step.Entry.{Entry}
@@ -9,7 +10,7 @@ use Rattle.air_sending.specs.declared.send.SendStop.{SendStop}
 use Rattle.air_sending.specs.declared.send.SendStop.TheVariants as send
 use Rattle.headend_jobs.specs.Callers.{CommandsAre, PlayerSwapped}
 use Rattle.headend_jobs.specs.Live.{and_stop, control_stop, feed_stop, run_stop, sent_stop}
-use Rattle.headend_jobs.specs.Playing.{swaps_by}
+use Rattle.headend_jobs.specs.Ticking.{ticks_of, turns_by}
 use Rattle.epg_report.specs.declared.status.Status.TheVariants.{Done}
 use Rattle.epg_live.specs.Stops.{feeds_stop, live_status}
 use Rattle.epg_live.proofs.StopFacts.{and_none, done_none, no_control}
@@ -34,9 +35,9 @@ two_fed first second none =
     (no_feed 1 first both.0, no_feed 2 second both.1)
 
 -- the player made all of its swaps
-pub all_swapped : (player sent : Result (Unit {0}) SendStop) (journal : List Entry) (cycles : ℕ) → ((stop : SendStop) → player ≡ Err stop → sent ≡ Err stop) → sent_stop sent ≡ None
-    → PlayerSwapped journal cycles player → CommandsAre journal 1 (swaps_by 1 cycles)
-all_swapped player (Err send.Air) journal cycles failed all_sent swapped = cc all_sent
-all_swapped player (Err send.Memory) journal cycles failed all_sent swapped = cc all_sent
-all_swapped (Err stop) (Ok u) journal cycles failed all_sent swapped = cc (failed stop refl)
-all_swapped (Ok v) (Ok u) journal cycles failed all_sent swapped = swapped
+pub all_swapped : (mux : Mux) (player sent : Result (Unit {0}) SendStop) (journal : List Entry) (cycles : ℕ) → ((stop : SendStop) → player ≡ Err stop → sent ≡ Err stop) → sent_stop sent ≡ None
+    → PlayerSwapped mux journal cycles player → CommandsAre journal 1 (turns_by 1 (ticks_of mux journal cycles))
+all_swapped mux player (Err send.Air) journal cycles failed all_sent swapped = cc all_sent
+all_swapped mux player (Err send.Memory) journal cycles failed all_sent swapped = cc all_sent
+all_swapped mux (Err stop) (Ok u) journal cycles failed all_sent swapped = cc (failed stop refl)
+all_swapped mux (Ok v) (Ok u) journal cycles failed all_sent swapped = swapped

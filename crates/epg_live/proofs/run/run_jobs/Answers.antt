@@ -12,7 +12,7 @@ returns-clause-ran g c = λ paths opened text read files known.
     jobs_ran g.O.From.Source.left g.O.From.Source.faults g.O.From.Source.same g.S.Source.left g.S.Source.faults g.S.Source.same c.args.mux c.args.plan c.args.feeds.items c.args.lines text paths files
     (g.A.Sink.written c.args.air.now) (g.A.Sink.written c.run_live.new.air) (g.A.Sink.faults c.args.air.now) (g.A.Sink.faults c.run_live.new.air) (g.O.Opener.read_faults c.args.opener.now) (g.O.Opener.read_faults c.close_feeds.new.opener)
     end.end c.close.result c.live_status-run.result end.ensures.ran (subst (λ (o : Option Files). AreOpened g.O.From.Source.left g.O.From.Source.faults o paths c.args.feeds.items) known opened) c.requires.going read
-    c.close_feeds.ensures.closes.rose c.live_status-run.ensures.value c.close.ensures c.requires.served
+    c.close_feeds.ensures.closes.rose c.live_status-run.ensures.value c.close.ensures c.requires.served end.ensures.tally
 
 pub returns-clause-cause : goal.returns-clause-cause
 returns-clause-cause g c =
