@@ -82,6 +82,18 @@ fn count(counts: &mut [u64; 6], place: usize, holds: bool) {
     }
 }
 
+// The entries of a report, without the line of the rate.
+fn entries_of(report: &str) -> &[u8] {
+    let mut len: usize = 0;
+    for line in report.lines() {
+        if line.starts_with("rate,") {
+            break;
+        }
+        len = len.saturating_add(line.len()).saturating_add(1);
+    }
+    report.as_bytes().get(..len).unwrap_or(b"")
+}
+
 fn put_counts(out: &mut Buffer, counts: &[u64; 6]) {
     for (name, count) in COUNTED.iter().zip(counts) {
         out.say_number(name, *count);
@@ -154,9 +166,11 @@ impl<'a, W: Threads + Wait + Sync> Room<'a, W> {
     }
 
     // Whether the journal of the last part goes on with that of what stands before it, to the journal of the script.
-    fn is_journal(&self, ends: &mut Ends, before: &str, last: &[u8], whole: &[u8]) -> bool {
+    fn is_journal(&self, ends: &mut Ends, before: &str, last: &str, whole: &str) -> bool {
         self.play(ends, before.as_bytes());
-        let front = ends.report();
+        let front = entries_of(ends.report_text());
+        let last = entries_of(last);
+        let whole = entries_of(whole);
         let len = front.len().saturating_add(last.len());
         len == whole.len() && whole.starts_with(front) && whole.ends_with(last)
     }
@@ -188,8 +202,8 @@ impl<'a, W: Threads + Wait + Sync> Room<'a, W> {
         self.run_parts(ends, "play --resume=p", script, places, joined);
         let ended = whole.ended && joined.code == 0;
         let is_air = joined.air.as_slice() == whole.air.as_slice();
-        let journal = whole.journal.as_slice();
-        let is_journal = self.is_journal(ends, before, joined.report.as_slice(), journal);
+        let journal = whole.journal.text();
+        let is_journal = self.is_journal(ends, before, joined.report.text(), journal);
         let is_audited = self.is_audited(ends, script, joined.air.as_slice());
         self.run_parts(ends, "play --resume p --fold", script, places, joined);
         count(counts, 0, true);
