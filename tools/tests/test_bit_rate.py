@@ -42,6 +42,74 @@ def script(services: int, days: int, swaps: int) -> str:
     return edits + "".join(f"0,tick,{at(60 * (n + 1))}\n0,publish\n0,swap\n" for n in range(swaps))
 
 
+def worked_description(services: int, rate: int) -> str:
+    """Of n services: an NIT of 42 + 3 n bytes, an SDT of 15 + 21 n, and PMTs of 16 bytes."""
+    lines = ["network,40,Worked guides 16", "stream,1,1", f"start,{at(0)}"]
+    lines += [f"service,{101 + n},1,1,{256 + 2 * n},{257 + 2 * n},Acme,Serv{101 + n}" for n in range(services)]
+    return "\n".join([*lines, f"rate,{rate}", "end", ""])
+
+
+def worked_event(service: int, number: int) -> str:
+    """An event whose coded name has 25 bytes, with a text of 63 bytes and its number, and every third with 120 more."""
+    more = "m" * 120 if number % 3 == 0 else ""
+    return f"feed,1,put,{101 + service},{number + 1},{at(2880 * number)},00:48:00,eng,{'n' * 25},{'s' * 63}{number},{more},,,\n"
+
+
+def worked_script(services: int, days: int) -> str:
+    edits = "".join(worked_event(service, number) for service in range(services) for number in range(30 * days))
+    return f"{edits}0,publish\n0,swap\n"
+
+
+class Worked(NamedTuple):
+    """A worked cycle: a guide at a rate, its packets, and how many of these are null packets."""
+
+    services: int
+    days: int
+    rate: int
+    packets: int
+    nulls: int
+
+
+# Guides of 30 events a day and service: 3 services and a week have 181 sections of 100,227 bytes, 20 services 1,184 of 667,721, and 64 services
+# and 14 days 7,365 of 4,252,896. The counts of the first, third, fourth and eighth line were worked out by a simulation before the player was
+# written. For the others it had 631 and 24, 7,186, 5,864 and 4,000, 31,429, 24,588 and 173: its frames repeated PAT and PMT in half a second,
+# not NIT, SDT and TDT, and it let a section begin in a packet with room for less than 8 bytes of it. These are by bench/timed/simulate, which
+# has 631 and 24, and 5,864, where NIT, SDT and TDT are left out of what is first.
+WORKED = (
+    Worked(3, 7, 100_000, 733, 2),
+    Worked(3, 7, 500_000, 633, 21),
+    Worked(3, 7, 2_000_000, 1_253, 583),
+    Worked(3, 7, 10_000_000, 5_491, 4_840),
+    Worked(20, 7, 100_000, 7_187, 2),
+    Worked(20, 7, 500_000, 5_958, 9),
+    Worked(20, 7, 2_000_000, 4_002, 34),
+    Worked(20, 7, 10_000_000, 5_705, 1_536),
+    Worked(64, 14, 2_000_000, 31_729, 34),
+    Worked(64, 14, 10_000_000, 24_598, 170),
+)
+
+
+def is_kept(rate: int, first: int, most: int) -> bool:
+    """Whether frames whose leads have `most` packets, `first` of them before present and following, repeat the first in half a second and
+    all, in two leads, in two (air_timing), where a lead begins at most a gap late and frames are as short as leads and gaps let them be."""
+    gap, half = -(-rate // 60_160), rate // 3_008
+    frame = most + 3 * gap + 26
+    return frame + 1 + gap + first <= half and 2 * frame + 1 + gap + most <= 4 * half
+
+
+def least_rate(services: int, sdt: int) -> int:
+    """Of the worked guides. Before present and following a lead has PAT, PMTs, NIT, SDT and TDT; a present event takes two packets."""
+    first = 1 + services + 1 + sdt + 1
+    return next(rate for rate in range(100_000, 100_000_001) if is_kept(rate, first, first + 2 * services))
+
+
+RATE_LINES = (
+    (3, 500_000, "rate,500000,kept"),
+    (3, 100_000, f"rate,100000,short,1,{least_rate(3, 1)}"),
+    (20, 100_000, f"rate,100000,short,1,{least_rate(20, 3)}"),
+)
+
+
 class Spans(NamedTuple):
     """In seconds: the least gap between sections of one sub-table, and how long the tables wait."""
 
@@ -81,6 +149,11 @@ class BitRates(unittest.TestCase):
         self.assertEqual(done.returncode, 0, done.stderr[-300:])
         return done.stdout
 
+    def report(self, text: str) -> str:
+        done = program("play", data=text.encode())
+        self.assertEqual(done.returncode, 0, done.stderr[-300:])
+        return done.stderr.decode()
+
     def simulated(self, air: bytes, rate: int) -> bytes:
         """What the model makes of an air without a rate."""
         plain, timed = self.folder / "plain.ts", self.folder / "simulated.ts"
@@ -94,6 +167,28 @@ class BitRates(unittest.TestCase):
             with self.subTest(services=services, rate=rate):
                 made = self.played(description(services, rate) + text)
                 self.assertEqual(made, self.simulated(self.played(description(services) + text), rate))
+
+    def test_worked_guides_have_their_packets(self) -> None:
+        for worked in WORKED:
+            text = worked_description(worked.services, worked.rate) + worked_script(worked.services, worked.days)
+            with self.subTest(services=worked.services, rate=worked.rate):
+                air = self.played(text)
+                packets = [air[place:place + 188] for place in range(0, len(air), 188)]
+                nulls = sum(int.from_bytes(packet[1:3], "big") & 0x1FFF == 0x1FFF for packet in packets)
+                self.assertEqual((len(packets), nulls), (worked.packets, worked.nulls))
+
+    def test_the_report_says_whether_all_is_kept(self) -> None:
+        for services, rate, line in RATE_LINES:
+            with self.subTest(services=services, rate=rate):
+                self.assertEqual(self.report(worked_description(services, rate) + worked_script(services, 1)).splitlines()[-1], line)
+        self.assertNotIn("rate", self.report(description(1) + script(1, 1, 1)))
+
+    def test_the_needed_rate_would_have_done(self) -> None:
+        text = worked_script(20, 1)
+        word, rate, said, cycles, needed = self.report(worked_description(20, 100_000) + text).splitlines()[-1].split(",")
+        self.assertEqual((word, rate, said, cycles), ("rate", "100000", "short", "1"))
+        self.assertTrue(self.report(worked_description(20, int(needed)) + text).endswith(f"rate,{needed},kept\n"))
+        self.assertIn(",short,1,", self.report(worked_description(20, int(needed) - 1) + text))
 
     def test_sections_are_apart_and_come_in_time(self) -> None:
         for rate in (500_000, 1_000_000, 2_000_000):
