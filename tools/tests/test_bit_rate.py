@@ -209,6 +209,15 @@ class BitRates(unittest.TestCase):
             guides.append(heard.stderr.partition(b"guide\t")[2].partition(b"\n")[2])
         self.assertEqual(guides[0], guides[1])
 
+    def test_the_journal_of_live_makes_the_same_air(self) -> None:
+        feed, text = self.folder / "feed.txt", description(1, 300_000)
+        feed.write_text("name,101,Acme,News\n", encoding="utf-8")
+        live = program("live", "--feed", str(feed), "--cycles=40", "--join=0", data=text.encode())
+        self.assertEqual(live.returncode, 0, live.stderr[-300:])
+        journal = [line for line in live.stderr.decode().splitlines(True) if line[0].isdigit() or line.startswith("=,")]
+        self.assertEqual(sum(line.startswith("1,tick,") for line in journal), 39)
+        self.assertEqual(self.played(text + "".join(journal)), live.stdout)
+
     def test_on_air_keeps_sections_apart(self) -> None:
         air = self.folder / "on-air.ts"
         run = OnAirRun(self.folder, "--output", str(air), description=DESCRIPTION.replace("end\n", "rate,1000000\nend\n"))
