@@ -71,21 +71,21 @@ class Worked(NamedTuple):
 
 
 # Guides of 30 events a day and service: 3 services and a week have 181 sections of 100,227 bytes, 20 services 1,184 of 667,721, and 64 services
-# and 14 days 7,365 of 4,252,896. The counts of the first, third, fourth and eighth line were worked out by a simulation before the player was
-# written. For the others it had 631 and 24, 7,186, 5,864 and 4,000, 31,429, 24,588 and 173: its frames repeated PAT and PMT in half a second,
-# not NIT, SDT and TDT, and it let a section begin in a packet with room for less than 8 bytes of it. These are by bench/timed/simulate, which
-# has 631 and 24, and 5,864, where NIT, SDT and TDT are left out of what is first.
+# and 14 days 7,365 of 4,252,896. The counts are those of bench/timed/simulate, which makes each of these airs byte for byte. A simulation before
+# the player was written had 733 and 2, 631 and 24, 1,253 and 583, 5,491 and 4,840, 7,186, 5,864, 4,000, 5,705 and 1,536, 31,429, and 24,588 and
+# 173: in it sections of different tiers shared packets, frames repeated PAT and PMT in half a second, not NIT, SDT and TDT, and a section began
+# in a packet with room for less than 8 bytes of it.
 WORKED = (
-    Worked(3, 7, 100_000, 733, 2),
-    Worked(3, 7, 500_000, 633, 21),
-    Worked(3, 7, 2_000_000, 1_253, 583),
-    Worked(3, 7, 10_000_000, 5_491, 4_840),
-    Worked(20, 7, 100_000, 7_187, 2),
-    Worked(20, 7, 500_000, 5_958, 9),
-    Worked(20, 7, 2_000_000, 4_002, 34),
-    Worked(20, 7, 10_000_000, 5_705, 1_536),
-    Worked(64, 14, 2_000_000, 31_729, 34),
-    Worked(64, 14, 10_000_000, 24_598, 170),
+    Worked(3, 7, 100_000, 746, 2),
+    Worked(3, 7, 500_000, 638, 19),
+    Worked(3, 7, 2_000_000, 1_255, 582),
+    Worked(3, 7, 10_000_000, 5_492, 4_840),
+    Worked(20, 7, 100_000, 7_209, 2),
+    Worked(20, 7, 500_000, 5_970, 9),
+    Worked(20, 7, 2_000_000, 4_003, 34),
+    Worked(20, 7, 10_000_000, 5_706, 1_533),
+    Worked(64, 14, 2_000_000, 31_762, 34),
+    Worked(64, 14, 10_000_000, 24_600, 170),
 )
 
 

@@ -3,6 +3,7 @@ use Rattle.std.proofs.Common.{◌≡◌, ℕ, zero, suc, ◌<◌, List, [], ◌�
 use Rattle.std.specs.Prelude.{slice_get}
 use Rattle.std.specs.List.{AllByRecursion}
 use Rattle.version_book.specs.Airings.{AiredTables}
+use Rattle.section_codec.specs.declared.table.Tier3.TheVariants.{Fast}
 use Rattle.cycle_plan.specs.Sections.{planned}
 use Rattle.cycle_plan.proofs.Cursors.{planned_all}
 use Rattle.ts_packets.specs.Bytes.{Packet}
@@ -11,6 +12,7 @@ use Rattle.air_timing.specs.declared.timing.Timing.{Timing}
 use Rattle.air_timing.specs.Pacing.{Timed, Place, place_at, paced_one, timings, HaveBytes}
 use Rattle.air_timing.specs.Plan.{section_at, timed_of, order_in}
 use Rattle.air_timing.specs.Rate.{gap_at}
+use Rattle.air_timing.proofs.Alone.{pid_of_lane}
 use Rattle.air_model.specs.Air.{Sent, sections_once, weights_once}
 use Rattle.air_model.proofs.Dense.{once_some}
 use Rattle.air_model.proofs.Planned.{all_got, weights_each}
@@ -35,7 +37,7 @@ or_map f (y ∷ xs) (suc i) x d e = or_map f xs i x d e
 
 -- a section of the plan
 pub planned_at : (ss : List Sent) (i : ℕ) (s : Sent) → slice_get ss i ≡ Some s → section_at (paced_in ss) i ≡ paced_of ss s
-planned_at ss i s e = or_map (paced_of ss) ss i s (record { pid = 0; len = 0; table = 0 }) e
+planned_at ss i s e = or_map (paced_of ss) ss i s (record { pid = 0; tier = Fast; len = 0; table = 0 }) e
 
 module _ (rate : ℕ) (past : List AiredTables) (a : AiredTables) where
   abbrev pub once : List Sent
@@ -85,7 +87,7 @@ module _ (rate : ℕ) (past : List AiredTables) (a : AiredTables) where
   sent_as c t l =
       let o = sent_once c t l in
       let p = sym (planned_at once t.section o.own o.got) in
-      (o.sent, o.are, sym o.alike.pid ∙ ap (λ (p : Paced). p.pid) p, sym o.alike.len ∙ ap (λ (p : Paced). p.len) p)
+      (o.sent, o.are, sym o.alike.pid ∙ ap (λ (p : Paced). p.pid) p ∙ pid_of_lane (section_at (paced_in once) t.section), sym o.alike.len ∙ ap (λ (p : Paced). p.len) p)
 
   pub all_timings : (P : ℕ → Type 0) (t : Timed) (p : Place) (xs : List ℕ) → AllByRecursion P xs → AllByRecursion (λ (s : Timing). P s.section) (timings t p xs)
   all_timings P t p [] h = tt

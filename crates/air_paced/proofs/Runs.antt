@@ -28,11 +28,11 @@ use Rattle.air_paced.proofs.Sent.{parts_of, runs_part, runs_are}
 
 -- ---- sections that share packets
 
--- sections of one PID that follow each other in packets, from packet c on, which has u bytes of sections
+-- sections of one lane that follow each other in packets, from packet c on, which has u bytes of sections
 abbrev Chain : Timed → ℕ → ℕ → ℕ → List Timing → Type 0
-Chain t pid c u [] = Unit {0}
-Chain t pid c u (x ∷ xs) =
-    (t.pid x.section ≡ pid) × (x.first ≡ c) × (u < 183) × (x.last ≡ c + (u + t.len x.section) / 184) × Chain t pid x.last (used_at_end (u + t.len x.section)) xs
+Chain t lane c u [] = Unit {0}
+Chain t lane c u (x ∷ xs) =
+    (t.lane x.section ≡ lane) × (x.first ≡ c) × (u < 183) × (x.last ≡ c + (u + t.len x.section) / 184) × Chain t lane x.last (used_at_end (u + t.len x.section)) xs
 
 -- the packets after sections, n before them
 abbrev pub after : ℕ → List Timing → ℕ
@@ -46,7 +46,7 @@ after-append n (x ∷ xs) ys = after-append (x.last + 1) xs ys
 -- runs, n packets before them
 abbrev RunsAt : Timed → ℕ → List Run → Type 0
 RunsAt t n [] = Unit {0}
-RunsAt t n (r ∷ rs) = ((pid : ℕ) × Chain t pid (n + r.nulls) 0 r.part) × RunsAt t (after (n + r.nulls) r.part) rs
+RunsAt t n (r ∷ rs) = ((lane : ℕ) × Chain t lane (n + r.nulls) 0 r.part) × RunsAt t (after (n + r.nulls) r.part) rs
 
 abbrev after_runs : ℕ → List Run → ℕ
 after_runs n [] = n
@@ -59,7 +59,7 @@ abbrev IsAfter : ℕ → Packing → Type 0
 IsAfter n packing = (n ≡ packets_so_far packing) ⊎ ((packing.used ≡ 0) × (n ≤ packing.closed))
 
 record Shares (t : Timed) (p : Place) (x : ℕ) : Type 0 where
-  pub pid : t.pid x ≡ p.packing.pid
+  pub pid : t.lane x ≡ p.packing.pid
   pub first : first_of t p x ≡ p.packing.closed
   pub room : p.packing.used < 183
   pub taken_is : taken_at t p x ≡ p.packing.used
@@ -102,12 +102,12 @@ so_far_none packing e = ap (λ (b : Bool). if b then packing.closed else packing
 
 -- a section that begins before the end of the packets so far shares the last of them,
 shares : (t : Timed) (p : Place) (x n : ℕ) → 0 < t.len x → 0 < t.least → IsAfter n p.packing → first_of t p x < n → Shares t p x
-shares t p x n some least is lt = go (is_free_at t p x) refl (begun_or need p.packing (t.pid x))
+shares t p x n some least is lt = go (is_free_at t p x) refl (begun_or need p.packing (t.lane x))
   where
     need : ℕ
     need = need_of t.least (t.len x)
 
-    go : (b : Bool) → is_free_at t p x ≡ b → Begun need p.packing (t.pid x) ⊎ ((begins_in t p.packing x ≡ packets_so_far p.packing) × (taken_needing need p.packing (t.pid x) ≡ 0)) → Shares t p x
+    go : (b : Bool) → is_free_at t p x ≡ b → Begun need p.packing (t.lane x) ⊎ ((begins_in t p.packing x ≡ packets_so_far p.packing) × (taken_needing need p.packing (t.lane x) ≡ 0)) → Shares t p x
     go false e h =
         let f : first_of t p x ≡ p.free (t.table x) = ap (λ (b : Bool). begins_in t (if b then p.packing else begun_at (p.free (t.table x))) x) e in
         let l = leb-false (p.free (t.table x)) (begins_in t p.packing x) e in
@@ -129,22 +129,22 @@ shares t p x n some least is lt = go (is_free_at t p x) refl (begun_or need p.pa
       pid = h.pid_is;
       first = ap (λ (b : Bool). begins_in t (if b then p.packing else begun_at (p.free (t.table x))) x) e ∙ h.first;
       room = (let r = h.room in let m : 1 ≤ need_of t.least (t.len x) = omega arith in omega arith);
-      taken_is = ap (λ (b : Bool). taken_needing (need_of t.least (t.len x)) (if b then p.packing else begun_at (p.free (t.table x))) (t.pid x)) e ∙ h.taken_is;
+      taken_is = ap (λ (b : Bool). taken_needing (need_of t.least (t.len x)) (if b then p.packing else begun_at (p.free (t.table x))) (t.lane x)) e ∙ h.taken_is;
     }
 
 -- and any other one has no section before it in its packet
 alone : (t : Timed) (p : Place) (x n : ℕ) → IsAfter n p.packing → n ≤ first_of t p x → taken_at t p x ≡ 0
-alone t p x n is le = go (is_free_at t p x) refl (begun_or (need_of t.least (t.len x)) p.packing (t.pid x))
+alone t p x n is le = go (is_free_at t p x) refl (begun_or (need_of t.least (t.len x)) p.packing (t.lane x))
   where
     need : ℕ
     need = need_of t.least (t.len x)
 
-    go : (b : Bool) → is_free_at t p x ≡ b → Begun (need_of t.least (t.len x)) p.packing (t.pid x) ⊎ ((begins_in t p.packing x ≡ packets_so_far p.packing) × (taken_needing (need_of t.least (t.len x)) p.packing (t.pid x) ≡ 0)) → taken_at t p x ≡ 0
-    go false e h = ap (λ (b : Bool). taken_needing (need_of t.least (t.len x)) (if b then p.packing else begun_at (p.free (t.table x))) (t.pid x)) e
-    go true e (inr h) = ap (λ (b : Bool). taken_needing (need_of t.least (t.len x)) (if b then p.packing else begun_at (p.free (t.table x))) (t.pid x)) e ∙ h.1
+    go : (b : Bool) → is_free_at t p x ≡ b → Begun (need_of t.least (t.len x)) p.packing (t.lane x) ⊎ ((begins_in t p.packing x ≡ packets_so_far p.packing) × (taken_needing (need_of t.least (t.len x)) p.packing (t.lane x) ≡ 0)) → taken_at t p x ≡ 0
+    go false e h = ap (λ (b : Bool). taken_needing (need_of t.least (t.len x)) (if b then p.packing else begun_at (p.free (t.table x))) (t.lane x)) e
+    go true e (inr h) = ap (λ (b : Bool). taken_needing (need_of t.least (t.len x)) (if b then p.packing else begun_at (p.free (t.table x))) (t.lane x)) e ∙ h.1
     go true e (inl h) =
         let f : first_of t p x ≡ p.packing.closed = ap (λ (b : Bool). begins_in t (if b then p.packing else begun_at (p.free (t.table x))) x) e ∙ h.first in
-        ap (λ (b : Bool). taken_needing (need_of t.least (t.len x)) (if b then p.packing else begun_at (p.free (t.table x))) (t.pid x)) e ∙ h.taken_is ∙ unused is f
+        ap (λ (b : Bool). taken_needing (need_of t.least (t.len x)) (if b then p.packing else begun_at (p.free (t.table x))) (t.lane x)) e ∙ h.taken_is ∙ unused is f
       where
         unused : IsAfter n p.packing → first_of t p x ≡ p.packing.closed → p.packing.used ≡ 0
         unused (inr i) f = i.0
@@ -184,8 +184,8 @@ parted t least n p (x ∷ xs) all is =
           part = tt;
           runs = (
             (
-              t.pid x,
-              (refl, f, omega arith, ap₂ (λ (m v : ℕ). m + (v + t.len x) / 184) f u, subst (λ (v : ℕ). Chain t (t.pid x) (last_of t p x) (used_at_end (v + t.len x)) r.part) u h.part),
+              t.lane x,
+              (refl, f, omega arith, ap₂ (λ (m v : ℕ). m + (v + t.len x) / 184) f u, subst (λ (v : ℕ). Chain t (t.lane x) (last_of t p x) (used_at_end (v + t.len x)) r.part) u h.part),
             ),
             h.runs,
           );
@@ -199,7 +199,7 @@ HaveSome t xs = AllByRecursion (λ (x : Timing). 0 < t.len x.section) xs
 
 -- what is sent of a section: it has its PID and its length
 abbrev pub IsSentAs : Timed → (Timing → Option Sent) → Timing → Type 0
-IsSentAs t sent x = (s : Sent) × (sent x ≡ Some s) × (s.pid ≡ t.pid x.section) × (length s.bytes ≡ t.len x.section)
+IsSentAs t sent x = (s : Sent) × (sent x ≡ Some s) × (s.pid ≡ t.lane x.section / 4) × (length s.bytes ≡ t.len x.section)
 
 abbrev pub AreSentAs : Timed → (Timing → Option Sent) → List Timing → Type 0
 AreSentAs t sent xs = AllByRecursion (IsSentAs t sent) xs
@@ -215,12 +215,12 @@ record ChainIs (sent : Timing → Option Sent) (base pid c u : ℕ) (xs : List T
   pub spots : places pid (packing_at pid (base + c) u) (bytes_of (filter_map sent xs)) ≡ map (spot base) xs
   pub so_far : (n : ℕ) → packets_so_far (packing_at pid (base + c) u) ≡ base + n → packets_so_far (ending pid (packing_at pid (base + c) u) (bytes_of (filter_map sent xs))) ≡ base + after n xs
 
-chain_is : (t : Timed) (sent : Timing → Option Sent) (base pid c u : ℕ) (xs : List Timing) → HaveSome t xs → AreSentAs t sent xs → Chain t pid c u xs → ChainIs sent base pid c u xs
-chain_is t sent base pid c u [] some sents h = record { spots = refl; so_far = λ n e. e }
-chain_is t sent base pid c u (x ∷ xs) some sents h =
+chain_is : (t : Timed) (sent : Timing → Option Sent) (base lane pid c u : ℕ) (xs : List Timing) → HaveSome t xs → AreSentAs t sent xs → Chain t lane c u xs → ChainIs sent base pid c u xs
+chain_is t sent base lane pid c u [] some sents h = record { spots = refl; so_far = λ n e. e }
+chain_is t sent base lane pid c u (x ∷ xs) some sents h =
     let s = sents.0.0 in
     let len : length s.bytes ≡ t.len x.section = sents.0.3 in
-    let r = chain_is t sent base pid x.last (used_at_end (u + t.len x.section)) xs some.1 sents.1 h.4 in
+    let r = chain_is t sent base lane pid x.last (used_at_end (u + t.len x.section)) xs some.1 sents.1 h.4 in
     let i = inside (base + c) pid u h.2 in
     let last : base + c + (u + t.len x.section) / 184 ≡ base + x.last = (let l = h.3 in omega arith) in
     let next : packed_one (packing_at pid (base + c) u) pid (length s.bytes) ≡ packing_at pid (base + x.last) (used_at_end (u + t.len x.section)) =
@@ -256,11 +256,11 @@ one_dense pid (s ∷ ss) h =
     first_packets s ss ∙ ap₂ (λ (f b : List Sent). packets_dense s.pid (s.bytes ∷ bytes_of f) ++ each_dense b) w.0 w.1 ∙ append-nil (packets_dense s.pid (s.bytes ∷ bytes_of ss))
     ∙ ap (λ (q : ℕ). packets_dense q (s.bytes ∷ bytes_of ss)) h.0
 
-chain_pids : (t : Timed) (sent : Timing → Option Sent) (pid c u : ℕ) (xs : List Timing) → AreSentAs t sent xs → Chain t pid c u xs → AllByRecursion (λ (s : Sent). s.pid ≡ pid) (filter_map sent xs)
-chain_pids t sent pid c u [] sents h = tt
-chain_pids t sent pid c u (x ∷ xs) sents h =
-    subst (λ (o : Option Sent). AllByRecursion (λ (s : Sent). s.pid ≡ pid) (cons_option o (filter_map sent xs))) (sym sents.0.1)
-    (sents.0.2 ∙ h.0, chain_pids t sent pid x.last (used_at_end (u + t.len x.section)) xs sents.1 h.4)
+chain_pids : (t : Timed) (sent : Timing → Option Sent) (lane c u : ℕ) (xs : List Timing) → AreSentAs t sent xs → Chain t lane c u xs → AllByRecursion (λ (s : Sent). s.pid ≡ lane / 4) (filter_map sent xs)
+chain_pids t sent lane c u [] sents h = tt
+chain_pids t sent lane c u (x ∷ xs) sents h =
+    subst (λ (o : Option Sent). AllByRecursion (λ (s : Sent). s.pid ≡ lane / 4) (cons_option o (filter_map sent xs))) (sym sents.0.1)
+    (sents.0.2 ∙ ap (λ (n : ℕ). n / 4) h.0, chain_pids t sent lane x.last (used_at_end (u + t.len x.section)) xs sents.1 h.4)
 
 chain_bytes : (t : Timed) (sent : Timing → Option Sent) (xs : List Timing) → HaveSome t xs → AreSentAs t sent xs → HaveBytes (bytes_of (filter_map sent xs))
 chain_bytes t sent [] some sents = tt
@@ -272,16 +272,17 @@ chain_bytes t sent (x ∷ xs) some sents =
 abbrev pub Stands : List Packet → (Timing → Option Sent) → ℕ → Timing → Type 0
 Stands packets sent base x = (s : Sent) × (sent x ≡ Some s) × StandsIn packets (base + x.first) (base + x.last) s
 
-each_stands : (t : Timed) (sent : Timing → Option Sent) (packets : List Packet) (base pid c u : ℕ) (xs : List Timing) → AreSentAs t sent xs → Chain t pid c u xs
-    → EachStands packets (map (spot base) xs) (on pid (bytes_of (filter_map sent xs))) → AllByRecursion (Stands packets sent base) xs
-each_stands t sent packets base pid c u [] sents h each = tt
-each_stands t sent packets base pid c u (x ∷ xs) sents h each =
+each_stands : (t : Timed) (sent : Timing → Option Sent) (packets : List Packet) (base lane c u : ℕ) (xs : List Timing) → AreSentAs t sent xs → Chain t lane c u xs
+    → EachStands packets (map (spot base) xs) (on (lane / 4) (bytes_of (filter_map sent xs))) → AllByRecursion (Stands packets sent base) xs
+each_stands t sent packets base lane c u [] sents h each = tt
+each_stands t sent packets base lane c u (x ∷ xs) sents h each =
     let s = sents.0.0 in
+    let pid = lane / 4 in
     let got : EachStands packets (map (spot base) (x ∷ xs)) (record { pid = pid; bytes = s.bytes } ∷ on pid (bytes_of (filter_map sent xs))) =
     subst (λ (o : Option Sent). EachStands packets (map (spot base) (x ∷ xs)) (on pid (bytes_of (cons_option o (filter_map sent xs))))) sents.0.1 each in
-    let same : pid ≡ s.pid = sym (sents.0.2 ∙ h.0) in (
+    let same : pid ≡ s.pid = sym (sents.0.2 ∙ ap (λ (n : ℕ). n / 4) h.0) in (
       (s, sents.0.1, subst (λ (q : ℕ). StandsIn packets (base + x.first) (base + x.last) (record { pid = q; bytes = s.bytes })) same got.0),
-      each_stands t sent packets base pid x.last (used_at_end (u + t.len x.section)) xs sents.1 h.4 got.1,
+      each_stands t sent packets base lane x.last (used_at_end (u + t.len x.section)) xs sents.1 h.4 got.1,
     )
 
 -- ---- all runs
@@ -301,20 +302,21 @@ module _ (t : Timed) (sent : Timing → Option Sent) (base : ℕ) where
     pub stand : AllByRecursion (Stands (front ++ (counted front (each_dense (filter_map sent xs)) ++ rest)) sent base) xs
     pub size : n + length (each_dense (filter_map sent xs)) ≡ after n xs
 
-  run_stands : (pid n : ℕ) (xs : List Timing) → HaveSome t xs → AreSentAs t sent xs → Chain t pid n 0 xs → (front rest : List Packet) → length front ≡ base + n → RunStands n xs front rest
-  run_stands pid n xs some sents h front rest e =
+  run_stands : (lane n : ℕ) (xs : List Timing) → HaveSome t xs → AreSentAs t sent xs → Chain t lane n 0 xs → (front rest : List Packet) → length front ≡ base + n → RunStands n xs front rest
+  run_stands lane n xs some sents h front rest e =
+      let pid = lane / 4 in
       let ss = filter_map sent xs in
       let bytes = bytes_of ss in
       let have = chain_bytes t sent xs some sents in
-      let dense = one_dense pid ss (chain_pids t sent pid n 0 xs sents h) in
-      let c = chain_is t sent base pid n 0 xs some sents h in
+      let dense = one_dense pid ss (chain_pids t sent lane n 0 xs sents h) in
+      let c = chain_is t sent base lane pid n 0 xs some sents h in
       let alike : Alike pid (begun_at (base + n)) (packing_at pid (base + n) 0) = record { begins_same = refl; taken_same = refl; so_far = refl } in
       let same = alike-places pid (begun_at (base + n)) (packing_at pid (base + n) 0) alike bytes in
       let own = each_dense ss in
       let are : front ++ (own ++ rest) ≡ front ++ (packets_dense pid bytes ++ rest) = ap (λ (l : List Packet). front ++ (l ++ rest)) dense in
       let each = subst (λ (l : List (ℕ × ℕ)). EachStands (front ++ (own ++ rest)) l (on pid bytes)) (ap (λ (k : ℕ). places pid (begun_at k) bytes) e ∙ same.0 ∙ c.spots)
       (stretch_stands (front ++ (own ++ rest)) front rest pid bytes have are) in
-      let plain = each_stands t sent (front ++ (own ++ rest)) base pid n 0 xs sents h each in
+      let plain = each_stands t sent (front ++ (own ++ rest)) base lane n 0 xs sents h each in
       let many : length own ≡ length (stretch bytes) = ap length dense ∙ length-map (pieces [] (stretch bytes)) (packet_on pid) ∙ length-pieces [] (stretch bytes) in
       let count = (stretch_at pid (base + n) bytes have).count ∙ same.1 ∙ c.so_far n refl in
       record {

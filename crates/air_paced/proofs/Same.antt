@@ -3,6 +3,7 @@ use Rattle.std.proofs.Common.{◌≡◌, ℕ, ◌+◌, List, [], ◌∷◌, ◌+
 use Rattle.std.specs.Prelude.{cond, not}
 use Rattle.std.specs.List.{AllZip, prefix_len}
 use Rattle.section_codec.specs.SubTables.{header_of}
+use Rattle.section_codec.specs.Tables.{tier_of}
 use Rattle.section_codec.specs.declared.table.NumberedBody.{NumberedBody}
 use Rattle.section_codec.specs.declared.table.SubTable.{SubTable}
 use Rattle.section_codec.specs.declared.table.Tier3.{Tier3}
@@ -61,8 +62,8 @@ paced_alike all others h (s ∷ ss) [] k = absurd k
 paced_alike all others h (s ∷ ss) (u ∷ us) k =
     let number : number_of all s ≡ number_of others u = ap (λ (n : TableName). prefix_len (λ (other : Sent). not (is_name n (name_of other))) all) k.0.name ∙ number_alike (name_of u) all others h in
     let here : paced_of all s ≡ paced_of others u =
-    ap (λ (p : ℕ). record { pid = p; len = length s.bytes; table = number_of all s }) k.0.pid
-    ∙ ap₂ (λ (l n : ℕ). record { pid = u.pid; len = l; table = n }) k.0.len number in
+    ap₂ (λ (p : ℕ) (n : TableName). record { pid = p; tier = tier_of n.table; len = length s.bytes; table = number_of all s }) k.0.pid k.0.name
+    ∙ ap₂ (λ (l n : ℕ). record { pid = u.pid; tier = tier_of (name_of u).table; len = l; table = n }) k.0.len number in
     ap₂ (λ (p : Paced) (l : List Paced). p ∷ l) here (paced_alike all others h ss us k.1)
 
 weights_alike : (tier : Tier3) (ss us : List Sent) → AllZip AreAlike ss us → map (weight tier) ss ≡ map (weight tier) us

@@ -1,6 +1,7 @@
 -- What is planned of the cycle of an airing at a bit rate: its frames, leads and body.
 use Rattle.std.specs.Prelude.{ℕ, List, ◌++◌, map, length, flat_map}
 use Rattle.version_book.specs.Airings.{AiredTables}
+use Rattle.section_codec.specs.Tables.{tier_of}
 use Rattle.cycle_plan.specs.Cycle.{Planned as Tiers, fast_of, near_of, chunks_of}
 use Rattle.cycle_plan.specs.Sections.{planned}
 use Rattle.air_timing.specs.declared.pace.Paced.{Paced}
@@ -10,12 +11,17 @@ use Rattle.air_timing.specs.Spreading.{spread}
 use Rattle.air_timing.specs.Rate.{gap_at, span_at}
 use Rattle.air_timing.specs.Plan.{Planned, section_at, timed_of, order_in}
 use Rattle.air_model.specs.Air.{Sent, sections_once, weights_once}
-use Rattle.air_paced.specs.SubTables.{number_of, groups}
+use Rattle.air_paced.specs.SubTables.{name_of, number_of, groups}
 use Rattle.air_paced.specs.Leads.{leads_of, measure}
 
--- sections as they are paced: PID, bytes, and the number of the sub-table
+-- sections as they are paced: PID, the tier of their table_id, bytes, and the number of the sub-table
 abbrev pub paced_of : List Sent → Sent → Paced
-paced_of ss s = record { pid = s.pid; len = length s.bytes; table = number_of ss s }
+paced_of ss s = record {
+  pid = s.pid;
+  tier = tier_of (name_of s).table;
+  len = length s.bytes;
+  table = number_of ss s;
+}
 
 abbrev pub paced_in : List Sent → List Paced
 paced_in ss = map (paced_of ss) ss

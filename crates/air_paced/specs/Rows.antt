@@ -67,25 +67,23 @@ row_last = refl
 
 -- ---- a plan
 
-abbrev paced : ℕ → ℕ → ℕ → Paced
-paced pid len table = record { pid = pid; len = len; table = table }
+abbrev paced : ℕ → Tier3 → ℕ → ℕ → Paced
+paced pid tier len table = record { pid = pid; tier = tier; len = len; table = table }
 
 -- PAT and PMT; two sections of an SDT; the TDT; present and following; two schedules of the first
 -- days, of two sections and of one; and two later ones
 abbrev sections : List Paced
 sections =
-    paced 0 20 0 ∷ paced 256 40 1 ∷ paced 17 300 2 ∷ paced 17 300 2 ∷ paced 20 8 4
-    ∷ paced 18 100 5 ∷ paced 18 100 5 ∷ paced 18 170 7 ∷ paced 18 170 7 ∷ paced 18 180 9
-    ∷ paced 18 400 10 ∷ paced 18 400 10 ∷ paced 18 500 12 ∷ []
+    paced 0 Fast 20 0 ∷ paced 256 Fast 40 1 ∷ paced 17 Fast 300 2 ∷ paced 17 Fast 300 2
+    ∷ paced 20 Fast 8 4 ∷ paced 18 Fast 100 5 ∷ paced 18 Fast 100 5 ∷ paced 18 Near 170 7
+    ∷ paced 18 Near 170 7 ∷ paced 18 Near 180 9 ∷ paced 18 Far 400 10 ∷ paced 18 Far 400 10
+    ∷ paced 18 Far 500 12 ∷ []
 
-abbrev weighed : Tier3 → Paced → Tier3 × ℕ
-weighed tier s = (tier, packets_of s.len)
+abbrev weighed : Paced → Tier3 × ℕ
+weighed s = (s.tier, packets_of s.len)
 
 abbrev tiers : Tiers
-tiers = planned (
-    map (weighed Fast) (take 7 sections)
-    ++ (map (weighed Near) (take 3 (drop 7 sections)) ++ map (weighed Far) (drop 10 sections))
-    ) 200
+tiers = planned (map weighed sections) 200
 
 -- PAT, PMT and TDT stand in each lead; the SDT, and present and following, in turn
 row_leads : leads_of (fast_groups sections tiers) ≡ (0 ∷ 1 ∷ 2 ∷ 4 ∷ 5 ∷ []) ∷ (0 ∷ 1 ∷ 3 ∷ 4 ∷ 6 ∷ []) ∷ []
@@ -115,9 +113,9 @@ at section first last = record { section = section; first = first; last = last }
 -- with a gap of two packets
 row_timings : timings_at 100000 ≡
     (at 0 2 2 ∷ at 1 3 3 ∷ at 2 4 5 ∷ at 4 6 6 ∷ at 5 7 7 ∷ [])
-    ++ (at 7 7 8 ∷ at 9 8 9 ∷ at 8 11 11 ∷ at 10 11 14 ∷ [])
-    ++ (at 7 14 15 ∷ at 9 15 16 ∷ at 8 18 18 ∷ at 11 18 21 ∷ [])
-    ++ (at 7 21 22 ∷ at 9 22 23 ∷ at 8 25 25 ∷ at 12 25 28 ∷ [])
+    ++ (at 7 8 8 ∷ at 9 8 9 ∷ at 8 11 11 ∷ at 10 12 14 ∷ [])
+    ++ (at 7 15 15 ∷ at 9 15 16 ∷ at 8 18 18 ∷ at 11 19 21 ∷ [])
+    ++ (at 7 22 22 ∷ at 9 22 23 ∷ at 8 25 25 ∷ at 12 26 28 ∷ [])
     ++ (at 0 29 29 ∷ at 1 30 30 ∷ at 3 31 32 ∷ at 4 33 33 ∷ at 6 34 34 ∷ [])
 row_timings = refl
 
@@ -127,8 +125,9 @@ shown r = (r.nulls, map (λ (t : Timing). t.section) r.part)
 
 -- with a gap of nine packets
 row_runs : map shown (runs_of (timings_at 500000)) ≡
-    ((9, 0 ∷ []) ∷ (0, 1 ∷ []) ∷ (0, 2 ∷ []) ∷ (0, 4 ∷ []) ∷ (0, 5 ∷ 7 ∷ 9 ∷ []) ∷ [])
-    ++ ((8, 8 ∷ 10 ∷ []) ∷ (6, 7 ∷ 9 ∷ []) ∷ (8, 8 ∷ 11 ∷ []) ∷ (6, 7 ∷ 9 ∷ []) ∷ (8, 8 ∷ 12 ∷ []) ∷ [])
+    ((9, 0 ∷ []) ∷ (0, 1 ∷ []) ∷ (0, 2 ∷ []) ∷ (0, 4 ∷ []) ∷ (0, 5 ∷ []) ∷ (0, 7 ∷ 9 ∷ []) ∷ [])
+    ++ ((8, 8 ∷ []) ∷ (0, 10 ∷ []) ∷ (6, 7 ∷ 9 ∷ []) ∷ (8, 8 ∷ []) ∷ (0, 11 ∷ []) ∷ [])
+    ++ ((6, 7 ∷ 9 ∷ []) ∷ (8, 8 ∷ []) ∷ (0, 12 ∷ []) ∷ [])
     ++ ((0, 0 ∷ []) ∷ (0, 1 ∷ []) ∷ (0, 3 ∷ []) ∷ (0, 4 ∷ []) ∷ (0, 6 ∷ []) ∷ [])
 row_runs = refl
 

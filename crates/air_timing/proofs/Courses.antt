@@ -8,7 +8,7 @@ use Rattle.cycle_plan.specs.Cutting.{joined}
 use Rattle.air_timing.specs.declared.timing.Timing.{Timing}
 use Rattle.air_timing.specs.Pacing.{Timed, Place, timing_of, timings, paced_one, paced_all, first_of, last_of}
 use Rattle.air_timing.specs.Frames.{Rest, bare, led_at, in_part, in_next, rest_from, fits, order_of}
-use Rattle.air_timing.specs.PaceView.{Seen, place_of, AreOf, Puts}
+use Rattle.air_timing.specs.PaceView.{Seen, place_of, AreOf, Puts, lane_of}
 use Rattle.air_timing.specs.Plan.{Planned, section_at, timed_of, framed_of, lead_at, closing, order_in, plan_of, PlansAreLong, next_lead, end_with, order_from}
 use Rattle.air_timing.specs.declared.pace.Paced.{Paced}
 use Rattle.air_timing.specs.declared.pace.Spacing.{Spacing}
@@ -309,7 +309,7 @@ end_first c x first on at zero_led e =
 
 pub are_of : (f : Planned) (x : ℕ) (s : Paced) → s ≡ section_at f.sections x → AreOf (timed_of f) x s f.spacing
 are_of f x s e = record {
-  pid = ap (λ (t : Paced). t.pid) (sym e);
+  lane = ap lane_of (sym e);
   len = ap (λ (t : Paced). t.len) (sym e);
   table = ap (λ (t : Paced). t.table) (sym e);
   gap = refl;

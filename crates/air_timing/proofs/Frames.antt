@@ -180,7 +180,7 @@ start_most t p (x ∷ xs) near = first_most t p x (packets_so_far p.packing + t.
 
 start_least : (t : Timed) (p : Place) (xs : List ℕ) → packets_so_far p.packing ≤ start_of t p xs + 1
 start_least t p [] = omega arith
-start_least t p (x ∷ xs) = let s = (starts_needing (need_of t.least (t.len x)) p.packing (t.pid x)).near_total in let b = begins_first t p x in omega arith
+start_least t p (x ∷ xs) = let s = (starts_needing (need_of t.least (t.len x)) p.packing (t.lane x)).near_total in let b = begins_first t p x in omega arith
 
 start_front : (t : Timed) (p : Place) (xs front : List ℕ) (x : ℕ) (rest : List ℕ) → xs ≡ front ++ x ∷ rest → start_of t p xs ≤ first_of t (paced_all t p front) x
 start_front t p xs [] x rest e = subst (λ (l : List ℕ). start_of t p l ≤ first_of t p x) (sym e) (let r : first_of t p x ≤ first_of t p x = omega arith in r)

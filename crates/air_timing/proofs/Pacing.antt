@@ -33,7 +33,7 @@ pub first_most : (t : Timed) (p : Place) (x n : ℕ) → packets_so_far p.packin
 first_most t p x n so free = go (nat_le (p.free (t.table x)) (begins_in t p.packing x))
   where
     go : (b : Bool) → begins_in t (if b then p.packing else begun_at (p.free (t.table x))) x ≤ n
-    go true = let s = (starts_needing (need_of t.least (t.len x)) p.packing (t.pid x)).at_total in omega arith
+    go true = let s = (starts_needing (need_of t.least (t.len x)) p.packing (t.lane x)).at_total in omega arith
     go false = free
 
 pub first_last : (t : Timed) (p : Place) (x : ℕ) → first_of t p x ≤ last_of t p x
@@ -41,10 +41,10 @@ first_last t p x = omega arith
 
 -- so many packets at most from its first to its last
 pub last_most : (t : Timed) (p : Place) (x : ℕ) → t.len x ≤ 4096 → last_of t p x ≤ first_of t p x + 23
-last_most t p x l = let i = (starts_needing (need_of t.least (t.len x)) (packing_for t p x) (t.pid x)).inside in omega arith
+last_most t p x l = let i = (starts_needing (need_of t.least (t.len x)) (packing_for t p x) (t.lane x)).inside in omega arith
 
 pub closed_begins : (t : Timed) (packing : Packing) (x : ℕ) → packing.closed ≤ begins_in t packing x
-closed_begins t packing x = go (packing.used == 0) (has_room_needing (need_of t.least (t.len x)) packing (t.pid x))
+closed_begins t packing x = go (packing.used == 0) (has_room_needing (need_of t.least (t.len x)) packing (t.lane x))
   where
     go : (b c : Bool) → packing.closed ≤ (if b then packing.closed else if c then packing.closed else packing.closed + 1)
     go true c = omega arith
@@ -54,10 +54,10 @@ closed_begins t packing x = go (packing.used == 0) (has_room_needing (need_of t.
 -- ---- the packets so far
 
 pub so_far_with : (t : Timed) (p : Place) (x : ℕ) → 0 < t.len x → packets_so_far (packing_with t p x) ≡ last_of t p x + 1
-so_far_with t p x h = so_far-begun (packing_with t p x) (used_some (taken_needing (need_of t.least (t.len x)) (packing_for t p x) (t.pid x) + t.len x) (omega arith))
+so_far_with t p x h = so_far-begun (packing_with t p x) (used_some (taken_needing (need_of t.least (t.len x)) (packing_for t p x) (t.lane x) + t.len x) (omega arith))
 
 so_far_first : (t : Timed) (p : Place) (x : ℕ) → packets_so_far p.packing ≤ first_of t p x + 1
-so_far_first t p x = let s = (starts_needing (need_of t.least (t.len x)) p.packing (t.pid x)).near_total in let b = begins_first t p x in omega arith
+so_far_first t p x = let s = (starts_needing (need_of t.least (t.len x)) p.packing (t.lane x)).near_total in let b = begins_first t p x in omega arith
 
 pub so_far_grows : (t : Timed) (p : Place) (x : ℕ) → 0 < t.len x → packets_so_far p.packing ≤ packets_so_far (packing_with t p x)
 so_far_grows t p x h = let a = so_far_first t p x in let b = first_last t p x in let c = so_far_with t p x h in omega arith
@@ -152,7 +152,7 @@ nulls_most t p x near = go (nat_le (p.free (t.table x)) (begins_in t p.packing x
 
 -- one section more in a packing
 one_more : (t : Timed) (packing : Packing) (x : ℕ) → 0 < t.len x → packets_so_far (packed_in t packing x) ≤ packets_so_far packing + packets_of (t.len x)
-one_more t packing x h = one-more-needing (need_of t.least (t.len x)) packing (t.pid x) (t.len x) h
+one_more t packing x h = one-more-needing (need_of t.least (t.len x)) packing (t.lane x) (t.len x) h
 
 pub more_one : (t : Timed) (p : Place) (x : ℕ) → 0 < t.len x → packets_so_far (packing_with t p x) ≤ packets_so_far p.packing + packets_of (t.len x) + nulls_before t p x
 more_one t p x h = go (nat_le (p.free (t.table x)) (begins_in t p.packing x)) refl
@@ -162,7 +162,7 @@ more_one t p x h = go (nat_le (p.free (t.table x)) (begins_in t p.packing x)) re
     go true e = let o = one_more t p.packing x h in omega arith
     go false e =
         let l = leb-false (p.free (t.table x)) (begins_in t p.packing x) e in
-        let s = (starts_needing (need_of t.least (t.len x)) p.packing (t.pid x)).near_total in
+        let s = (starts_needing (need_of t.least (t.len x)) p.packing (t.lane x)).near_total in
         let o = one_more t (begun_at (p.free (t.table x))) x h in
         let z : packets_so_far (begun_at (p.free (t.table x))) ≡ p.free (t.table x) = refl in
         omega arith

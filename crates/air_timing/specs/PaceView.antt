@@ -1,5 +1,6 @@
 -- What contracts see of a pace.
-use Rattle.std.specs.Prelude.{◌≡◌, ℕ, ◌+◌, ◌<◌, ◌≤◌, List, slice_index_or}
+use Rattle.std.specs.Prelude.{◌≡◌, ℕ, ◌+◌, ◌*◌, ◌<◌, ◌≤◌, List, slice_index_or}
+use Rattle.section_codec.specs.Tables.{tier_rank}
 use Rattle.cycle_plan.specs.Packing.{Packing}
 use Rattle.air_timing.specs.Pacing.{Timed, Place, first_of, last_of, paced_one}
 use Rattle.air_timing.specs.declared.pace.Paced.{Paced}
@@ -14,7 +15,7 @@ pub record Seen : Type 0 where
 
 abbrev pub seen_of : Inside → Seen
 seen_of p = record {
-  packing = record { closed = p.closed; pid = p.pid; used = p.used };
+  packing = record { closed = p.closed; pid = p.lane; used = p.used };
   free = p.free.items;
   spacing = p.spacing;
 }
@@ -29,10 +30,14 @@ pub record IsPace (p : Inside) : Type 0 where
 abbrev pub place_of : Seen → Place
 place_of s = record { packing = s.packing; free = λ table. slice_index_or s.free table 0 }
 
+-- Sections share packets where they are on one PID and of one tier.
+abbrev pub lane_of : Paced → ℕ
+lane_of s = s.pid * 4 + tier_rank s.tier
+
 -- each section has these numbers
 abbrev pub numbers : ℕ → ℕ → ℕ → ℕ → ℕ → Timed
-numbers pid len table gap least = record {
-  pid = λ x. pid;
+numbers lane len table gap least = record {
+  lane = λ x. lane;
   len = λ x. len;
   table = λ x. table;
   gap = gap;
@@ -40,11 +45,11 @@ numbers pid len table gap least = record {
 }
 
 abbrev pub alone : Paced → Spacing → Timed
-alone s spacing = numbers s.pid s.len s.table spacing.gap spacing.least
+alone s spacing = numbers (lane_of s) s.len s.table spacing.gap spacing.least
 
 -- These are the numbers of this section.
 pub record AreOf (t : Timed) (x : ℕ) (s : Paced) (spacing : Spacing) : Type 0 where
-  pub pid : t.pid x ≡ s.pid
+  pub lane : t.lane x ≡ lane_of s
   pub len : t.len x ≡ s.len
   pub table : t.table x ≡ s.table
   pub gap : t.gap ≡ spacing.gap

@@ -7,11 +7,12 @@ use Rattle.cycle_plan.specs.Cutting.{packets_in}
 use Rattle.air_timing.specs.declared.timing.Timing.{Timing}
 use Rattle.cycle_plan.specs.Packing.{Packing, begun_at, need_of, begins_needing, taken_needing, packed_needing, packets_so_far}
 
--- What is sent: of each section its PID, its bytes, and its sub-table as a number. `gap` whole
--- packets are to lie between two sections of one sub-table. In the packet in which a section begins
--- it has `least` bytes or more, or all of its bytes.
+-- What is sent: of each section its lane, its bytes, and its sub-table as a number. Sections share
+-- packets only with sections of their lane, which is of one PID. `gap` whole packets are to lie between
+-- two sections of one sub-table. In the packet in which a section begins it has `least` bytes or more,
+-- or all of its bytes.
 pub record Timed : Type 0 where
-  pub pid : ℕ → ℕ
+  pub lane : ℕ → ℕ
   pub len : ℕ → ℕ
   pub table : ℕ → ℕ
   pub gap : ℕ
@@ -31,11 +32,11 @@ place_at n = record { packing = begun_at n; free = λ table. 0 }
 
 -- in a packing: the packet in which a section begins if no sub-table is waited for,
 abbrev pub begins_in : Timed → Packing → ℕ → ℕ
-begins_in t packing x = begins_needing (need_of t.least (t.len x)) packing (t.pid x)
+begins_in t packing x = begins_needing (need_of t.least (t.len x)) packing (t.lane x)
 
 -- and the packing after it
 abbrev pub packed_in : Timed → Packing → ℕ → Packing
-packed_in t packing x = packed_needing (need_of t.least (t.len x)) packing (t.pid x) (t.len x)
+packed_in t packing x = packed_needing (need_of t.least (t.len x)) packing (t.lane x) (t.len x)
 
 -- At a place: whether the sub-table of a section is free where the section would begin,
 abbrev pub is_free_at : Timed → Place → ℕ → Bool
@@ -51,7 +52,7 @@ first_of t p x = begins_in t (packing_for t p x) x
 
 -- the bytes of sections before it there,
 abbrev pub taken_at : Timed → Place → ℕ → ℕ
-taken_at t p x = taken_needing (need_of t.least (t.len x)) (packing_for t p x) (t.pid x)
+taken_at t p x = taken_needing (need_of t.least (t.len x)) (packing_for t p x) (t.lane x)
 
 -- the packing after it,
 abbrev pub packing_with : Timed → Place → ℕ → Packing

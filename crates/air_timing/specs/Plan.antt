@@ -1,11 +1,13 @@
 -- The plan of a cycle in frames: its sections in the order in which they are sent, each with its
 -- first and its last packet.
 use Rattle.std.specs.Prelude.{◌≡◌, ℕ, suc, ◌+◌, ◌-◌, ◌%◌, List, [], ◌∷◌, ◌++◌, ◌==◌, if◌then◌else◌, length, drop, slice_index_or}
+use Rattle.section_codec.specs.declared.table.Tier3.TheVariants.{Fast}
 use Rattle.cycle_plan.specs.Cutting.{joined}
 use Rattle.air_timing.specs.declared.pace.Paced.{Paced}
 use Rattle.air_timing.specs.declared.pace.Spacing.{Spacing}
 use Rattle.air_timing.specs.declared.timing.Timing.{Timing}
 use Rattle.air_timing.specs.Pacing.{Timed, Place, timings, paced_one, paced_all}
+use Rattle.air_timing.specs.PaceView.{lane_of}
 use Rattle.air_timing.specs.Frames.{Framed, Frame, start_of, fits, frames_of, order_of}
 
 -- What a cycle is planned by: its sections, each named by its place here; the leads of a round,
@@ -18,11 +20,11 @@ pub record Planned : Type 0 where
   pub span : ℕ
 
 abbrev pub section_at : List Paced → ℕ → Paced
-section_at sections x = slice_index_or sections x (record { pid = 0; len = 0; table = 0 })
+section_at sections x = slice_index_or sections x (record { pid = 0; tier = Fast; len = 0; table = 0 })
 
 abbrev pub timed_of : Planned → Timed
 timed_of f = record {
-  pid = λ x. (section_at f.sections x).pid;
+  lane = λ x. lane_of (section_at f.sections x);
   len = λ x. (section_at f.sections x).len;
   table = λ x. (section_at f.sections x).table;
   gap = f.spacing.gap;

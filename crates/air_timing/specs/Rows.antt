@@ -2,6 +2,7 @@
 -- walk that lays the bytes of these sections into packets one at a time; it has no arithmetic of
 -- packings.
 use Rattle.std.specs.Prelude.{◌≡◌, ℕ, zero, suc, List, [], ◌∷◌, ◌++◌, Bool, true, false, Option, None, Some, slice_index, map, nat_le, refl}
+use Rattle.section_codec.specs.declared.table.Tier3.TheVariants.{Fast, Near}
 use Rattle.air_timing.specs.declared.pace.Paced.{Paced}
 use Rattle.air_timing.specs.declared.span.Leads.{Leads}
 use Rattle.air_timing.specs.declared.timing.Timing.{Timing}
@@ -9,6 +10,7 @@ use Rattle.air_timing.specs.Pacing.{Timed, place_at, timings, nulls_in}
 use Rattle.air_timing.specs.Spreading.{spread}
 use Rattle.air_timing.specs.Frames.{Framed, frames_of, begin_of, order_of}
 use Rattle.air_timing.specs.Turns.{often_of, round_of, turn_of}
+use Rattle.air_timing.specs.PaceView.{lane_of}
 use Rattle.air_timing.specs.Plan.{Planned, plan_of}
 use Rattle.air_timing.specs.Rate.{gap_at, half_second, seconds_of, least_span, largest_span, span_at}
 
@@ -16,7 +18,7 @@ use Rattle.air_timing.specs.Rate.{gap_at, half_second, seconds_of, least_span, l
 -- gap of two packets
 abbrev row : Timed
 row = record {
-  pid = slice_index (0 ∷ 18 ∷ 18 ∷ 18 ∷ []);
+  lane = slice_index (0 ∷ 18 ∷ 18 ∷ 18 ∷ []);
   len = slice_index (16 ∷ 100 ∷ 100 ∷ 200 ∷ []);
   table = slice_index (0 ∷ 1 ∷ 1 ∷ 2 ∷ []);
   gap = 2;
@@ -45,7 +47,7 @@ row_fewer = refl
 -- two sections on one PID, of two sub-tables and of these bytes, where so many bytes are wanted
 abbrev pair : ℕ → ℕ → ℕ → Timed
 pair least one two = record {
-  pid = λ x. 18;
+  lane = λ x. 18;
   len = slice_index (one ∷ two ∷ []);
   table = slice_index (0 ∷ 1 ∷ []);
   gap = 2;
@@ -77,6 +79,31 @@ five_bytes = refl
 four_bytes : pair_timings 8 179 5 ≡ at 0 0 0 ∷ at 1 1 1 ∷ []
 four_bytes = refl
 
+-- ---- lanes
+
+abbrev paced : ℕ → ℕ → ℕ → Paced
+paced pid len table = record { pid = pid; tier = Fast; len = len; table = table }
+
+-- A section shares the packet of one of its lane, and begins a packet after one of another lane.
+abbrev lanes : ℕ → ℕ → Timed
+lanes one two = record {
+  lane = slice_index (one ∷ two ∷ []);
+  len = λ x. 60;
+  table = slice_index (0 ∷ 1 ∷ []);
+  gap = 2;
+  least = 8;
+}
+
+one_lane : timings (lanes 72 72) (place_at 0) (0 ∷ 1 ∷ []) ≡ at 0 0 0 ∷ at 1 0 0 ∷ []
+one_lane = refl
+
+two_lanes : timings (lanes 72 73) (place_at 0) (0 ∷ 1 ∷ []) ≡ at 0 0 0 ∷ at 1 1 1 ∷ []
+two_lanes = refl
+
+-- Fast and Near sections of PID 18
+row_lanes : map lane_of (paced 18 60 0 ∷ record { pid = 18; tier = Near; len = 60; table = 1 } ∷ []) ≡ 72 ∷ 73 ∷ []
+row_lanes = refl
+
 -- ---- turns and frames
 
 -- sub-tables of three, one and two sections
@@ -93,7 +120,7 @@ even (suc (suc n)) = even n
 abbrev framed : Framed
 framed = record {
   timed = record {
-    pid = slice_index (0 ∷ 18 ∷ 18 ∷ 17 ∷ 16 ∷ 17 ∷ 16 ∷ []);
+    lane = slice_index (0 ∷ 18 ∷ 18 ∷ 17 ∷ 16 ∷ 17 ∷ 16 ∷ []);
     len = slice_index (16 ∷ 100 ∷ 100 ∷ 170 ∷ 170 ∷ 170 ∷ 170 ∷ []);
     table = slice_index (0 ∷ 1 ∷ 1 ∷ 2 ∷ 3 ∷ 4 ∷ 5 ∷ []);
     gap = 1;
@@ -179,9 +206,6 @@ row_sdt : turns 2 16 ≡ Some 0 ∷ Some 1 ∷ Some 3 ∷ Some 5 ∷ Some 7 ∷ 
 row_sdt = refl
 
 -- ---- plans, of the sections of the frames above
-
-abbrev paced : ℕ → ℕ → ℕ → Paced
-paced pid len table = record { pid = pid; len = len; table = table }
 
 abbrev planned_row : ℕ → ℕ → List ℕ → Planned
 planned_row gap span body = record {

@@ -1,8 +1,9 @@
 //! An air at a bit rate: how far apart the sections of one sub-table are sent, and how often
 //! (EN 300 468, 5.1.4; TR 101 290, 5.2 and 5.3).
 //!
-//! A section is named by a number. It begins in the packet begun, if its sub-table is free by then,
-//! or else after null packets (`specs/Pacing.antt`). A cycle is sent in frames: a lead stands in
+//! A section is named by a number. It begins in the packet begun, if that has sections of its lane
+//! and room, or in the next one; or after null packets, where its sub-table is not free by then
+//! (`specs/Pacing.antt`). A cycle is sent in frames: a lead stands in
 //! front of each, and after it sections of the body as far as they end within the frame
 //! (`specs/Frames.antt`). The body has the first sections of all sub-tables, then the second ones,
 //! and so on (`specs/Spreading.antt`).

@@ -2,15 +2,18 @@
 ghost use Rattle.std.specs.Prelude.{◌≡◌, ◌+◌, ◌^◌, ◌<◌, ◌≤◌, ℕ, IfOk, length, replicate, slice_index_or};
 ghost use Rattle.cycle_plan.specs.Packing.{begun_at, need_of, has_room_needing, taken_needing, used_at_end};
 ghost use Rattle.air_timing.specs.Pacing.{Timed, begins_in, is_free_at, first_of, taken_at, last_of};
-ghost use Rattle.air_timing.specs.PaceView.{AreOf, Puts, place_of, alone};
+ghost use Rattle.air_timing.specs.PaceView.{AreOf, Puts, place_of, alone, lane_of};
 
+use section_codec::Tier3;
 use std::alloc::{AllocError, Global};
 use std::marker::Model;
 
-/// A section as it is paced: its PID, its bytes, and its sub-table as a number.
+/// A section as it is paced: its PID, its tier, its bytes, and its sub-table as a number. Sections
+/// share packets only where they have one PID and one tier.
 #[derive(Clone, Copy)]
 pub struct Paced {
     pub pid: u16,
+    pub tier: Tier3,
     pub len: u16,
     pub table: u32,
 }
@@ -35,7 +38,7 @@ pub struct Extent {
 #[derive(Drop)]
 pub struct Pace {
     closed: u64,
-    pid: u16,
+    lane: u32,
     used: u16,
     free: Vec<u64>,
     spacing: Spacing,
@@ -67,7 +70,7 @@ impl Pace {
         let free = vec![in alloc; 0; tables]?;
         Ok(Pace {
             closed: first,
-            pid: 0,
+            lane: 0,
             used: 0,
             free,
             spacing,
@@ -91,7 +94,7 @@ impl Pace {
         let used = used_at_end(self.before(section) + section.len);
         let free = last + 1 + u64::from(self.spacing.gap);
         self.closed = last;
-        self.pid = section.pid;
+        self.lane = lane_of(section);
         self.used = used;
         self.free[section.table as usize] = free;
         Extent { first, last }
@@ -191,7 +194,7 @@ impl Pace {
     fn taken(&self, section: Paced) -> u16
         ensures taken { result
             ≡ taken_needing (need_of self.now.spacing.least section.len)
-            self.now.packing section.pid }
+            self.now.packing (lane_of section) }
         ensures most { result ≤ 184 }
     {
         if self.used != 0 && self.shares(section) {
@@ -203,11 +206,22 @@ impl Pace {
 
     fn shares(&self, section: Paced) -> bool
         ensures { result ≡ has_room_needing (need_of self.now.spacing.least section.len)
-            self.now.packing section.pid }
+            self.now.packing (lane_of section) }
     {
         let need = self.spacing.least.min(section.len);
-        self.pid == section.pid && self.used < 184u16.saturating_sub(need)
+        self.lane == lane_of(section) && self.used < 184u16.saturating_sub(need)
     }
+}
+
+fn lane_of(section: Paced) -> u32
+    ensures { result ≡ lane_of section }
+{
+    let rank = match section.tier {
+        Tier3::Fast => 0,
+        Tier3::Near => 1,
+        Tier3::Far => 2,
+    };
+    u32::from(section.pid) * 4 + rank
 }
 
 fn used_at_end(bytes: u16) -> u16

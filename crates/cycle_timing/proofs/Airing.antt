@@ -9,6 +9,7 @@ use Rattle.si_lists.proofs.Lists.{all_append, all_drop}
 use Rattle.guide_model.specs.declared.offset.Offset.{Offset}
 use Rattle.si_base.specs.Fields.{two_at}
 use Rattle.section_codec.specs.KeyOrder.{is_key}
+use Rattle.section_codec.specs.Tables.{tier_of}
 use Rattle.section_codec.specs.Section.{section_bytes, longest_body}
 use Rattle.section_codec.specs.SubTables.{IsFit, header_of}
 use Rattle.section_codec.specs.declared.table.NumberedBody.{NumberedBody}
@@ -133,8 +134,8 @@ paced_listed all known are (s ∷ ss) [] h = absurd h
 paced_listed all known are (s ∷ ss) (l ∷ ls) h =
     let is = h.0 in
     let here : paced_as known l ≡ paced_of all s =
-    ap (λ (p : ℕ). record { pid = p; len = l.len; table = number_among known l }) (sym is.pid)
-    ∙ ap₂ (λ (m n : ℕ). record { pid = s.pid; len = m; table = n }) (sym is.len) (sym (number_listed s l is all known are)) in
+    ap₂ (λ (p : ℕ) (n : TableName). record { pid = p; tier = tier_of n.table; len = l.len; table = number_among known l }) (sym is.pid) (sym is.name)
+    ∙ ap₂ (λ (m n : ℕ). record { pid = s.pid; tier = tier_of (name_of s).table; len = m; table = n }) (sym is.len) (sym (number_listed s l is all known are)) in
     ap₂ (λ (p : Paced) (rest : List Paced). p ∷ rest) here (paced_listed all known are ss ls h.1)
 
 -- ---- their weights

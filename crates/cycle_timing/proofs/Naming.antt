@@ -5,6 +5,8 @@ use Rattle.std.specs.Option.{option_or, unwrap_or}
 use Rattle.std.specs.List.{prefix_len}
 use Rattle.std.proofs.lemmas.List.{take_more, take-append-drop, drop_more, length-take-le, map_more}
 use Rattle.section_codec.specs.KeyOrder.{is_key}
+use Rattle.section_codec.specs.Tables.{tier_of}
+use Rattle.section_codec.specs.declared.table.Tier3.{Tier3}
 use Rattle.section_codec.specs.declared.table.Key.{Key}
 use Rattle.section_codec.proofs.KeyOrderFacts.{is_key-itself}
 use Rattle.air_timing.specs.declared.pace.Paced.{Paced}
@@ -38,9 +40,10 @@ firsts_more ls i place d q old new less place_at old_is new_is =
     ∙ sym (found_push is_named (take i ls) l q) ∙ ap (λ (all : List Listed). found is_named all q) (sym (take_more ls i d less))
 
 -- a section more that is paced
-pub paced_more : (ls : List Listed) (i : ℕ) (d : Listed) (table : ℕ) (old new : List Paced) → i < length ls → old ≡ map (paced_as ls) (take i ls) → table ≡ number_among ls (get_or ls i d)
-    → new ≡ old ++ record { pid = (get_or ls i d).name.pid; len = (get_or ls i d).len; table = table } ∷ [] → new ≡ map (paced_as ls) (take (i + 1) ls)
-paced_more ls i d table old new less old_is table_is new_is =
+pub paced_more : (ls : List Listed) (i : ℕ) (d : Listed) (tier : Tier3) (table : ℕ) (old new : List Paced) → i < length ls → old ≡ map (paced_as ls) (take i ls) → tier ≡ tier_of (get_or ls i d).name.table → table ≡ number_among ls (get_or ls i d)
+    → new ≡ old ++ record { pid = (get_or ls i d).name.pid; tier = tier; len = (get_or ls i d).len; table = table } ∷ [] → new ≡ map (paced_as ls) (take (i + 1) ls)
+paced_more ls i d tier table old new less old_is tier_is table_is new_is =
     let l = get_or ls i d in
-    new_is ∙ ap₂ (λ (ps : List Paced) (n : ℕ). ps ++ record { pid = l.name.pid; len = l.len; table = n } ∷ []) old_is table_is
+    new_is ∙ ap (λ (r : Tier3). old ++ record { pid = l.name.pid; tier = r; len = l.len; table = table } ∷ []) tier_is
+    ∙ ap₂ (λ (ps : List Paced) (n : ℕ). ps ++ record { pid = l.name.pid; tier = tier_of l.name.table; len = l.len; table = n } ∷ []) old_is table_is
     ∙ sym (map_more (paced_as ls) ls i d less)

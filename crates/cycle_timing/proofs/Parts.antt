@@ -40,7 +40,7 @@ no_section : Listed
 no_section = record { tier = Fast; name = record { pid = 0; table = 0; ext = 0; stream = 0; network = 0 }; len = 0 }
 
 section_is : (ls : List Listed) (x : ℕ) → x < length ls → section_at (paced_under ls) x ≡ paced_as ls (get_or ls x no_section)
-section_is ls x l = get_or-map (paced_as ls) ls x no_section (record { pid = 0; len = 0; table = 0 }) l
+section_is ls x l = get_or-map (paced_as ls) ls x no_section (record { pid = 0; tier = Fast; len = 0; table = 0 }) l
 
 number_within : (ls : List Listed) (x : ℕ) → x < length ls → number_among ls (get_or ls x no_section) < length ls
 number_within ls x l =

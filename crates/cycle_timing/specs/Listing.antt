@@ -4,6 +4,7 @@ use Rattle.std.specs.List.{prefix_len}
 use Rattle.guide_model.specs.declared.offset.Offset.{Offset}
 use Rattle.time_tables.specs.LocalOffsets.{offsets_body}
 use Rattle.section_codec.specs.KeyOrder.{is_key}
+use Rattle.section_codec.specs.Tables.{tier_of}
 use Rattle.section_codec.specs.declared.table.Key.{Key}
 use Rattle.section_codec.specs.declared.table.NumberedBody.{NumberedBody}
 use Rattle.section_codec.specs.declared.table.SubTable.{SubTable}
@@ -66,7 +67,12 @@ abbrev pub number_among : List Listed → Listed → ℕ
 number_among ls l = prefix_len (λ (other : Listed). not (is_key l.name other.name)) ls
 
 abbrev pub paced_as : List Listed → Listed → Paced
-paced_as ls l = record { pid = l.name.pid; len = l.len; table = number_among ls l }
+paced_as ls l = record {
+  pid = l.name.pid;
+  tier = tier_of l.name.table;
+  len = l.len;
+  table = number_among ls l;
+}
 
 abbrev pub paced_under : List Listed → List Paced
 paced_under ls = map (paced_as ls) ls

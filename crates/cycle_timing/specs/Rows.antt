@@ -54,7 +54,7 @@ at section first last = record { section = section; first = first; last = last }
 -- at 500 kbit/s, with a gap of nine packets: two chunks, and two frames with a lead
 row_three : timings_with 500000 (plan_under 500000 (listed_under three [])) ≡
     (at 0 9 9 ∷ at 1 10 10 ∷ at 2 11 11 ∷ at 3 12 12 ∷ at 4 13 13 ∷ at 5 14 14 ∷ at 6 15 15 ∷ [])
-    ++ (at 7 16 16 ∷ at 9 16 17 ∷ at 11 17 17 ∷ at 13 17 18 ∷ at 15 18 19 ∷ at 17 19 20 ∷ [])
+    ++ (at 7 16 16 ∷ at 9 16 17 ∷ at 11 17 17 ∷ at 13 18 18 ∷ at 15 18 19 ∷ at 17 19 20 ∷ [])
     ++ (at 14 28 28 ∷ at 16 29 29 ∷ at 18 30 30 ∷ at 19 31 33 ∷ at 20 33 35 ∷ [])
     ++ (at 13 38 38 ∷ at 15 39 39 ∷ at 17 40 40 ∷ at 14 48 48 ∷ at 16 49 49 ∷ at 18 50 50 ∷ at 21 51 53 ∷ [])
     ++ (at 0 54 54 ∷ at 1 55 55 ∷ at 2 56 56 ∷ at 3 57 57 ∷ at 4 58 58 ∷ at 5 59 59 ∷ at 6 60 60 ∷ [])

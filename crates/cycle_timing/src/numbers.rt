@@ -8,7 +8,7 @@ ghost use Rattle.cycle_timing.specs.Listing.{paced_under};
 
 use crate::listed::Listed;
 use air_timing::Paced;
-use section_codec::Key;
+use section_codec::{Key, tier_of};
 use std::alloc::{AllocError, Global};
 use std::collections::BTreeMap;
 
@@ -24,6 +24,7 @@ pub(crate) fn paced_of(alloc: Global, listed: &[Listed]) -> Result<Vec<Paced>, A
         let table = first_place(&mut firsts, section.name, place)?;
         paced.push(Paced {
             pid: section.name.pid,
+            tier: tier_of(section.name.table),
             len: section.len,
             table,
         })?;

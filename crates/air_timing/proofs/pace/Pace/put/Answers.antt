@@ -7,9 +7,10 @@ pub returns-clause-puts : goal.returns-clause-puts
 returns-clause-puts c =
     let last = c.last_packet-last.result in
     let free = last + 1 + c.from.result in
-    put_is c.args.section c.self.inside c.args.self.now c.self.view_is c.first_packet-first.result last c.before-2.result c.used_at_end-used.result free
+    put_is c.args.section c.self.inside c.args.self.now c.self.view_is c.lane_of-self-inside.result c.first_packet-first.result last c.before-2.result c.used_at_end-used.result free
     (record {
       table = c.requires.table;
+      lane_is = c.lane_of-self-inside.ensures;
       first_is = c.first_packet-first.ensures.first;
       last_is = c.last_packet-last.ensures.last;
       before_is = c.before-2.ensures.before;
