@@ -23,7 +23,7 @@ use Rattle.epg_report.specs.declared.status.Status.TheVariants.{BadStream, Memor
 use Rattle.epg_report.specs.declared.status.Origin.TheVariants.{Input, Feed, Recording}
 use Rattle.epg_play.specs.declared.stop.PlayStop.{PlayStop}
 use Rattle.epg_play.specs.declared.stop.PlayStop.TheVariants.{NoMux as Undescribed, NoCommand as Refused, Disagrees as Differs, Read, Air as OnAir, Memory as NoMemory}
-use Rattle.epg_play.specs.Ending.{mux_stop}
+use Rattle.epg_play.specs.Leaves.{mux_stop}
 use Rattle.epg_play.specs.Leaves.{status_for, whole_journal}
 use Rattle.epg_play.specs.Script.{Script, Stop, Ended, no_mux, script_in, script_taken}
 use Rattle.epg_play.proofs.RunFacts.{IsPlayed, IsUndescribed, PlayedBy, rest_played, went_played}

@@ -8,8 +8,8 @@ use Rattle.epg_report.specs.declared.status.Outlet.TheVariants.{Air, Report}
 use Rattle.epg_report.specs.Told.{OpenerAsked, ReportTaken, SourceGave}
 use Rattle.epg_live.specs.Stops.{HasStatusCause}
 use Rattle.epg_play.specs.Leaves.{IsOfPlay, PlayRun}
-use Rattle.epg_resume.specs.Beginning.{IsOfResume}
-use Rattle.epg_resume.specs.Leaves.{FoldRun, ResumeRun}
+use Rattle.epg_play.specs.Beginning.{IsOfResume}
+use Rattle.epg_play.specs.CheckpointRuns.{FoldRun, ResumeRun}
 use Rattle.epg_cli.specs.Plays.{PlayEnds}
 
 play_cause : (i j f g a b : ℕ) (s : Status) → IsOfPlay s → (s ≡ ReadFault Input → Rose i j) → (s ≡ WriteFault Air → Rose a b) → HasStatusCause i j f g a b s

@@ -16,8 +16,8 @@ mod top;
 pub use epg_listen::{run_listen, run_listen_as};
 pub use epg_live::live_reports_tell_journals;
 pub use epg_play::{
-    journals_play_again, outcomes_are_compared, play_is_heard, reports_tell_journals, run_play,
+    journals_play_again, outcomes_are_compared, play_is_heard, reports_tell_journals, run_folded,
+    run_play, run_resumed,
 };
 pub use epg_report::{Origin, Outlet, Status};
-pub use epg_resume::{run_folded, run_resumed};
 pub use top::run;

@@ -10,4 +10,20 @@ pub mod OutcomeFacts
 mod StopLines
 pub mod SentFacts
 mod TallyFacts
-pub mod PlayRunFacts
+pub mod SentBehind
+pub mod GoingOn
+pub mod Bases
+pub mod BehindFacts
+pub mod OverFacts
+pub mod ReadBack
+pub mod PlayedFacts
+pub mod WrittenFacts
+pub mod StopFacts
+pub mod CourseRuns
+pub mod BeginFacts
+pub mod OwnEntries
+pub mod KeysKept
+pub mod PidsKept
+pub mod ClockKept
+pub mod CheckpointsRead
+pub mod PlayRuns

@@ -1,13 +1,11 @@
 -- The tally of a player while a script is played, and the line that is said of it.
-use Rattle.std.proofs.Common.{◌≡◌, ℕ, Bool, true, false, List, [], ◌++◌, refl, sym, ap, ◌∙◌, subst, append-nil, inl, inr, ◌⊎◌}
+use Rattle.std.proofs.Common.{◌≡◌, ℕ, Bool, true, false, List, ◌++◌, sym, ap, ◌∙◌, subst, append-nil, inl, inr, ◌⊎◌}
 use Rattle.std.specs.Prelude.{Option, Some, None, Err, Result}
 use Rattle.mux_model.specs.declared.mux.Mux.{Mux}
 use Rattle.journal_model.specs.declared.step.Entry.{Entry}
-use Rattle.journal_model.specs.Steps.{Command}
-use Rattle.desk_core.specs.Journal.{Legal, journal_of}
-use Rattle.desk_core.specs.Desks.{DeskState, fresh}
+use Rattle.desk_core.specs.Journal.{Legal}
+use Rattle.desk_core.specs.Desks.{DeskState}
 use Rattle.journal_air.specs.Air.{airings}
-use Rattle.timed_player.specs.Tally.{no_cycles}
 use Rattle.cycle_player.specs.Sending.{Sending}
 use Rattle.cycle_player.specs.Tallies.{tally_of}
 use Rattle.air_sending.specs.OnAir.{IsPlayerOf, airing_on}
@@ -16,11 +14,11 @@ use Rattle.air_sending.specs.declared.send.SendStop.{SendStop}
 use Rattle.air_sending.specs.declared.send.SendStop.TheVariants as send
 use Rattle.air_sending.proofs.Tallied.{other_tallied, swap_tallied}
 use Rattle.journal_text.specs.Entries.{journal_text}
-use Rattle.epg_report.specs.Rates.{rate_line, rate_lines}
+use Rattle.epg_report.specs.Rates.{rate_line}
 use Rattle.epg_play.specs.declared.stop.PlayStop.{PlayStop}
 use Rattle.epg_play.specs.declared.stop.PlayStop.TheVariants.{NoMux, NoCommand as Refused, Disagrees, Read, Air, Memory}
 use Rattle.epg_play.specs.Items.{ItemDid, StepAt}
-use Rattle.epg_play.specs.Played.{TalliedTo, desk_after, send_stop}
+use Rattle.epg_play.specs.Played.{TalliedTo, send_stop}
 use Rattle.epg_play.specs.Leaves.{report_text}
 
 -- ---- while a script is played
@@ -73,25 +71,7 @@ stopped_tallied old desk player (Read stop) did has = subst (λ (d : DeskState).
 stopped_tallied old desk player Air did has = absurd did
 stopped_tallied old desk player Memory did has = tt
 
--- ---- at the beginning
-
-none_tallied : (rate : Option ℕ) → no_cycles ≡ tally_of rate []
-none_tallied None = refl
-none_tallied (Some rate) = refl
-
-pub start_tallied : (mux : Mux) (desk : DeskState) (player : Sending) → desk ≡ fresh mux
-    → player.tally ≡ no_cycles → HasTallied desk player
-start_tallied mux desk player d e =
-    subst (λ (x : DeskState). HasTallied x player) (sym d) (e ∙ none_tallied mux.rate)
-
 -- ---- the line
-
--- of the tally of a desk to which these commands were done
-pub rates_are : (mux : Mux) (desk : DeskState) (player : Sending) (commands : List Command)
-    → desk ≡ desk_after (fresh mux) commands → HasTallied desk player
-    → rate_line desk.mux.rate player.tally ≡ rate_lines mux (journal_of mux commands)
-rates_are mux desk player commands d has =
-    ap (rate_line desk.mux.rate) has ∙ ap (λ (x : DeskState). rate_lines x.mux x.entries) d
 
 -- without a bit rate there is none
 pub plain_report : (mux : Mux) (journal : List Entry) → mux.rate ≡ None

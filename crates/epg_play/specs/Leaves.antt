@@ -4,6 +4,8 @@ use Rattle.std.specs.Io.KnownBytes.{Appends, IsAtEnd}
 use Rattle.si_causes.specs.Causes.{Rose, AppendsFront}
 use Rattle.si_causes.specs.declared.stop.ReadStop.TheVariants.{Failed, TooLong as Overlong}
 use Rattle.mux_model.specs.declared.mux.Mux.{Mux}
+use Rattle.mux_config.specs.declared.stop.MuxStop.{MuxStop}
+use Rattle.mux_config.specs.declared.stop.MuxStop.TheVariants as mux
 use Rattle.journal_model.specs.declared.step.Step.TheVariants.{Swap}
 use Rattle.journal_model.specs.declared.step.Entry.{Entry}
 use Rattle.desk_core.specs.Journal.{journal_of}
@@ -86,6 +88,12 @@ status_for (Read Overlong) = PastLimit Input
 status_for (Read Failed) = ReadFault Input
 status_for OnAir = WriteFault Air
 status_for NoMemory = Memory
+
+-- the stop of a call that reads the description
+abbrev pub mux_stop : MuxStop → PlayStop
+mux_stop (mux.Fault fault) = Undescribed fault
+mux_stop (mux.Read stop) = Read stop
+mux_stop mux.Memory = NoMemory
 
 -- what the line of a stop says
 abbrev pub stop_text : PlayStop → List ℕ

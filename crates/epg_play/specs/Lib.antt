@@ -3,8 +3,14 @@ pub mod Script
 pub mod Played
 pub mod Items
 pub mod Leaves
-pub mod Ending
 pub mod Hearing
 pub mod Again
 pub mod Reports
 pub mod Rows
+pub mod Checkpointed
+pub mod Over
+pub mod Beginning
+pub mod Courses
+pub mod Behind
+pub mod CheckpointRuns
+pub mod NeverRefused

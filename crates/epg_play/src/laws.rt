@@ -1,6 +1,8 @@
-// What the two words of the program have to do with each other, and what a report has to do with an input.
+// What the two words of the program have to do with each other, what a report has to do with an
+// input, and the checkpoint of a journal and of its air.
 ghost use Rattle.epg_play.specs.Again.{JournalsPlayAgain};
 ghost use Rattle.epg_play.specs.Hearing.{PlayIsHeard};
+ghost use Rattle.epg_play.specs.NeverRefused.{KeysAreWritten, CountersAreWritten, CheckpointsAreRead};
 ghost use Rattle.epg_play.specs.Outcomes.{OutcomesAreCompared};
 ghost use Rattle.epg_play.specs.Reports.{PlainReportsAreJournals, ReportsTellJournals};
 
@@ -32,4 +34,14 @@ pub fn plain_reports_are_journals()
 /// Outcomes are compared as values: a kept outcome agrees exactly where it is the desk's.
 pub fn outcomes_are_compared()
     ensures { OutcomesAreCompared }
+{}
+
+/// What is kept of the keys that the airings of a legal journal carried, and of the PIDs of an air,
+/// which without a bit rate has no null packets, is such as the text of a checkpoint can say. So
+/// the checkpoint of the journal with what a player keeps that has handed out an air of its airings
+/// is read back, at a bit rate where the clock's moment has at most 18 digits.
+pub fn checkpoints_are_never_refused()
+    ensures keys { KeysAreWritten }
+    ensures counters { CountersAreWritten }
+    ensures read { CheckpointsAreRead }
 {}

@@ -1,5 +1,7 @@
 //! A run of `play`: it reads a script, keeps one desk, sends a cycle at each swap, and reports the
-//! journal.
+//! journal, or with `--fold` the checkpoint. With `--resume` it goes on from a checkpoint. All are
+//! one run (`play_on` of `run.rt`), from a head-end that did nothing yet or from a file, with one of
+//! two reports.
 //!
 //! The promise is on [`run_play`]: its clause `run` is the record `PlayRun`, which says what the
 //! air and the report have with each status but Memory. With Done the script is whole, each kept
@@ -14,25 +16,37 @@
 //! (`reports_tell_journals`). `do_item` and `play_rest` play a script at any desk, also at one that
 //! goes on from a checkpoint.
 //!
-//! Tested by whole runs: how much the air has after a failed write, and that a cycle is sent before
-//! the next line is read.
+//! The promises on [`run_folded`] and [`run_resumed`] are the records `FoldRun` and `ResumeRun`
+//! (`specs/CheckpointRuns.antt`). With `--fold` the report is the checkpoint of the run's journal and
+//! air. Such a checkpoint is never refused (`checkpoints_are_never_refused`). With `--resume` the
+//! entries go on from that journal, and the packets make one air with those before. At a bit rate
+//! the report's line is that of the new cycles (`new_text` of `specs/Behind.antt`). Folded again, the
+//! report is the checkpoint of both runs together. A file that is no checkpoint is refused before any
+//! step is done. What was sent is coherent, exact and spaced, also where a cycle was cut: with
+//! `--resume` it and the air before it in a row.
 //!
-//! Not promised: what is left after Memory, and that it comes only where memory runs out.
+//! Tested by whole runs: how much the air has after a failed write; that a cycle is sent before the
+//! next line is read; scripts cut after each swap, joined again and compared with the whole; refused
+//! checkpoints; files that cannot be opened or read.
+//!
+//! Not promised: what is left after Memory, and that it comes only where memory runs out; how long
+//! the headend was silent between two airs.
 #![tactic(auto)]
 
-mod ending;
+mod begin;
 mod item;
 mod laws;
 mod play;
+mod played;
+mod report;
 mod run;
 mod stop;
 
-pub use ending::status_of;
 pub use item::{ItemDone, do_item};
 pub use laws::{
-    journals_play_again, outcomes_are_compared, plain_reports_are_journals, play_is_heard,
-    reports_tell_journals,
+    checkpoints_are_never_refused, journals_play_again, outcomes_are_compared,
+    plain_reports_are_journals, play_is_heard, reports_tell_journals,
 };
 pub use play::play_rest;
-pub use run::{mux_stop_of, run_play};
-pub use stop::PlayStop;
+pub use run::{run_folded, run_play, run_resumed};
+pub use stop::{PlayStop, mux_stop_of, status_of};

@@ -1,71 +1,144 @@
-// A script, played from the input.
-ghost use Rattle.std.specs.Prelude.{◌≡◌, List, ℕ, None, Some};
+// Runs of `play`, from a head-end that did nothing yet or from a checkpoint.
+ghost use Rattle.std.specs.Prelude.{◌≡◌, ◌≤◌, ◌<◌, ◌^◌, [], List, ℕ, None, Some, IfSome};
 ghost use Rattle.std.specs.Io.KnownBytes.{IsAtEnd};
+ghost use Rattle.si_causes.specs.Causes.{Rose};
+ghost use Rattle.si_causes.specs.Opening.{Files};
 ghost use Rattle.si_causes.specs.Reading.{fresh};
-ghost use Rattle.epg_play.specs.Ending.{HasPlayed, CanBeTold, mux_stop, HasStopCause, HasAirStopCause};
+ghost use Rattle.epg_report.specs.Asked.{HasAskedFor};
+ghost use Rattle.epg_report.specs.Texts.{CanBeSaid};
+ghost use Rattle.epg_play.specs.Courses.{HasPlayedOn, IsCourse, IsMetByResume, IsMetByScript, IsNoDescription, PlayedNew, PlayedResumed, met_by};
+ghost use Rattle.epg_play.specs.CheckpointRuns.{FoldRan, ResumeRan};
 ghost use Rattle.epg_play.specs.Leaves.{PlayRan};
-ghost use Rattle.epg_report.specs.Told.{told};
 
-use crate::ending::{HeadEnd, Played, finish};
+use crate::begin::{new_start, start_at};
 use crate::play::play_rest;
-use crate::stop::PlayStop;
-use air_sending::open_player;
-use desk_core::Desk;
-use epg_report::{Status, out_of_memory};
-use mux_config::{MuxStop, read_mux};
-use si_causes::{LineReader, Sink, Source};
+use crate::played::{Course, Played};
+use crate::report::finish;
+use crate::stop::{PlayStop, mux_stop_of, status_of};
+use desk_checkpoint::Start;
+use epg_report::{Origin, Outlet, Status, out_of_memory};
+use mux_config::read_mux;
+use si_causes::{LineReader, Opener, Sink, Source};
 use std::alloc::Global;
 
-/// The stop of a script where the description of its multiplex was not read.
-pub fn mux_stop_of(stop: MuxStop) -> PlayStop
-    ensures { result ≡ mux_stop stop }
+// Nothing was played, for this status.
+fn not_played(met: Status) -> Played
+    ensures course { result.course ≡ None }
+    ensures met { result.met ≡ met }
 {
-    match stop {
-        MuxStop::Fault(fault) => PlayStop::NoMux(fault),
-        MuxStop::Read(stop) => PlayStop::Read(stop),
-        MuxStop::Memory => PlayStop::Memory,
+    Played { course: None, met }
+}
+
+fn met_of(played: Result<(), PlayStop>) -> Status
+    ensures { result ≡ met_by played }
+{
+    match played {
+        Ok(()) => Status::Done,
+        Err(stop) => status_of(stop),
     }
 }
 
-// Reads the description of the multiplex, and then does the commands behind it.
-fn play<S: Source, A: Sink>(alloc: Global, lines: &mut LineReader<S>, air: &mut A) -> Played
+// Plays the commands that are left, from a start on.
+fn play_on<S: Source, A: Sink>(
+    alloc: Global,
+    lines: &mut LineReader<S>,
+    start: Start,
+    air: &mut A,
+) -> Played
+    requires going { lines.old.stop ≡ None }
+    requires ended { start.player.left ≡ [] }
+    requires shift { start.shift < 10 ^ 18 }
+    ensures played { HasPlayedOn S.left lines.old lines.new start
+        (A.written air.old) (A.written air.new) result }
+    ensures course { IfSome result.course (IsCourse result.met) }
+    ensures said { CanBeSaid result.met }
+    ensures known { IsMetByScript result.met }
+    ensures behind { IsNoDescription result.met }
+    ensures end { result.met ≡ Status.Done → IsAtEnd (S.left lines.new.source) }
+    ensures input_cause { result.met ≡ Status.ReadFault Origin.Input
+        → Rose (S.faults lines.old.source) (S.faults lines.new.source) }
+    ensures air_cause { result.met ≡ Status.WriteFault Outlet.Air
+        → Rose (A.faults air.old) (A.faults air.new) }
+    ensures same { S.same lines.old.source lines.new.source }
+{
+    let shift = start.shift;
+    let mut desk = start.desk;
+    let mut player = start.player;
+    let folded = desk.entries().len();
+    let played = play_rest(alloc, lines, &mut desk, &mut player, air, shift);
+    let _ = desk.entries();
+    let end = Start {
+        desk,
+        shift,
+        player,
+    };
+    Played {
+        course: Some(Course { end, folded }),
+        met: met_of(played),
+    }
+}
+
+// Plays the script of an input, from a head-end that did nothing yet.
+fn play_new<S: Source, A: Sink>(alloc: Global, lines: &mut LineReader<S>, air: &mut A) -> Played
     requires unread { lines.old ≡ fresh lines.old.source }
     ensures played { (text : List ℕ) → S.left lines.old.source ≡ Some text
-        → HasPlayed text (S.left lines.new.source) (told A.written A.faults air.old air.new)
-        result.end result.stop }
-    ensures window { CanBeTold result.stop }
-    ensures end { result.stop ≡ None → IsAtEnd (S.left lines.new.source) }
-    ensures read_cause { HasStopCause (S.faults lines.old.source) (S.faults lines.new.source)
-        result.stop }
-    ensures air_cause { HasAirStopCause (A.faults air.old) (A.faults air.new) result.stop }
+        → PlayedNew text (S.left lines.new.source) (A.written air.old) (A.written air.new) result }
+    ensures course { IfSome result.course (IsCourse result.met) }
+    ensures said { CanBeSaid result.met }
+    ensures known { IsMetByScript result.met }
+    ensures end { result.met ≡ Status.Done → IsAtEnd (S.left lines.new.source) }
+    ensures input_cause { result.met ≡ Status.ReadFault Origin.Input
+        → Rose (S.faults lines.old.source) (S.faults lines.new.source) }
+    ensures air_cause { result.met ≡ Status.WriteFault Outlet.Air
+        → Rose (A.faults air.old) (A.faults air.new) }
     ensures same { S.same lines.old.source lines.new.source }
 {
     let mux = match read_mux(alloc, lines) {
         Ok(mux) => mux,
-        Err(stop) => {
-            return Played {
-                end: None,
-                stop: Some(mux_stop_of(stop)),
-            };
-        }
+        Err(stop) => return not_played(status_of(mux_stop_of(stop))),
     };
-    let Ok(mut player) = open_player(alloc, &mux) else {
-        return Played {
-            end: None,
-            stop: Some(PlayStop::Memory),
-        };
+    match new_start(alloc, mux) {
+        Ok(start) => play_on(alloc, lines, start, air),
+        Err(_) => not_played(Status::Memory),
+    }
+}
+
+// Plays the script of an input, from the checkpoint in the file of this path.
+fn play_from<O: Opener, S: Source, A: Sink>(
+    alloc: Global,
+    lines: &mut LineReader<S>,
+    path: &str,
+    opener: &mut O,
+    air: &mut A,
+) -> Played
+    requires unread { lines.old ≡ fresh lines.old.source }
+    ensures played { (text : List ℕ) → S.left lines.old.source ≡ Some text
+        → (files : Files) → O.files opener.old ≡ Some files
+        → PlayedResumed path.now files text (S.left lines.new.source)
+        (O.tried opener.old) (O.tried opener.new)
+        (A.written air.old) (A.written air.new) result }
+    ensures course { IfSome result.course (IsCourse result.met) }
+    ensures said { CanBeSaid result.met }
+    ensures known { IsMetByResume result.met }
+    ensures asked { HasAskedFor path.now (O.tried opener.old) (O.tried opener.new) result.met }
+    ensures end { result.met ≡ Status.Done → IsAtEnd (S.left lines.new.source) }
+    ensures input_cause { result.met ≡ Status.ReadFault Origin.Input
+        → Rose (S.faults lines.old.source) (S.faults lines.new.source) }
+    ensures open_cause { (n : ℕ) → result.met ≡ Status.OpenFault n
+        → Rose (O.faults opener.old) (O.faults opener.new) }
+    ensures read_cause { result.met ≡ Status.ReadFault Origin.Recording
+        → Rose (O.read_faults opener.old) (O.read_faults opener.new) }
+    ensures air_cause { result.met ≡ Status.WriteFault Outlet.Air
+        → Rose (A.faults air.old) (A.faults air.new) }
+    ensures same { S.same lines.old.source lines.new.source }
+{
+    let mux = match read_mux(alloc, lines) {
+        Ok(mux) => mux,
+        Err(stop) => return not_played(status_of(mux_stop_of(stop))),
     };
-    let Ok(mut desk) = Desk::open(alloc, mux) else {
-        return Played {
-            end: None,
-            stop: Some(PlayStop::Memory),
-        };
-    };
-    let stop = play_rest(alloc, lines, &mut desk, &mut player, air, 0).err();
-    let tally = player.tally();
-    Played {
-        end: Some(HeadEnd { desk, tally }),
-        stop,
+    match start_at(alloc, mux, path, opener) {
+        Ok(start) => play_on(alloc, lines, start, air),
+        Err(met) => not_played(met),
     }
 }
 
@@ -87,7 +160,60 @@ pub fn run_play<S: Source, A: Sink, R: Sink>(
     let Ok(mut lines) = LineReader::open(alloc, &mut *input) else {
         return out_of_memory(report);
     };
-    let played = play(alloc, &mut lines, air);
+    let played = play_new(alloc, &mut lines, air);
     let _source = lines.close();
-    finish(alloc, &played, report)
+    finish(alloc, &played, false, report)
+}
+
+/// `play --fold`: plays the script of the input as [`run_play`] does, but reports the checkpoint of its journal and of
+/// the air that it sent, from which [`run_resumed`] goes on. Where a fault ends the run, the report is the line of the fault alone.
+pub fn run_folded<S: Source, A: Sink, R: Sink>(
+    alloc: Global,
+    input: &mut S,
+    air: &mut A,
+    report: &mut R,
+) -> Status
+    ensures run { FoldRan S.left S.faults input.old input.new
+        A.written A.faults air.old air.new R.written R.faults report.old report.new result }
+{
+    let Ok(mut lines) = LineReader::open(alloc, &mut *input) else {
+        return out_of_memory(report);
+    };
+    let played = play_new(alloc, &mut lines, air);
+    let _source = lines.close();
+    finish(alloc, &played, true, report)
+}
+
+/// `play --resume PATH`: reads the description of the multiplex from the input, then the checkpoint
+/// from the file of this path, up to its line `end` and at most 1,073,741,824 bytes, and plays the
+/// script after the description as if the head-end had not been stopped. The report is the text of
+/// the new entries, whose publications go on with the numbers of the journal that was folded. After
+/// it, where the description has a bit rate, one line says whether the new cycles repeat in time what
+/// is frequent: `rate,BITS,kept`, or `rate,BITS,short,CYCLES,NEEDED` with how many do not and the
+/// least rate that would have done, or `none`. A new cycle that was cut off counts too; the cycles
+/// of the checkpoint's air do not. The last line names the fault, where there is one. With `fold` the
+/// report is that of [`run_folded`], over both journals and both airs together: it has no line on the
+/// rate.
+///
+/// `OpenFault(0)`, `ReadFault(Recording)`, `TooLong(Recording)` and `BadCheckpoint`, with the first line of the checkpoint that may
+/// not stand there, come before any step is done.
+pub fn run_resumed<O: Opener, S: Source, A: Sink, R: Sink>(
+    alloc: Global,
+    path: &str,
+    fold: bool,
+    opener: &mut O,
+    input: &mut S,
+    air: &mut A,
+    report: &mut R,
+) -> Status
+    ensures run { ResumeRan path.now fold O.files O.tried O.faults O.read_faults opener.old opener.new
+        S.left S.faults input.old input.new
+        A.written A.faults air.old air.new R.written R.faults report.old report.new result }
+{
+    let Ok(mut lines) = LineReader::open(alloc, &mut *input) else {
+        return out_of_memory(report);
+    };
+    let played = play_from(alloc, &mut lines, path, opener, air);
+    let _source = lines.close();
+    finish(alloc, &played, fold, report)
 }

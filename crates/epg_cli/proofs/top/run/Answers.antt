@@ -6,7 +6,7 @@ use Rattle.command_words.specs.Grammar.{command_of, Play, Listen, Live, Soak, Au
 use Rattle.epg_report.specs.Texts.{fault_line}
 use Rattle.epg_report.specs.Told.{asked, gave, told}
 use Rattle.epg_report.proofs.Reporting.{reported}
-use Rattle.epg_play.proofs.PlayRunFacts.{play_memory}
+use Rattle.epg_play.proofs.PlayRuns.{play_memory}
 use Rattle.epg_listen.proofs.ListenRunFacts.{listen_memory}
 use Rattle.epg_listen.specs.Leaves.{ListenRun}
 use Rattle.epg_live.specs.LiveRun.{LiveRun}
@@ -15,7 +15,7 @@ use Rattle.epg_soak.specs.SoakRun.{SoakRun}
 use Rattle.epg_soak.proofs.SoakFacts.{soak_memory}
 use Rattle.epg_audit.specs.Leaves.{AuditRun}
 use Rattle.epg_audit.proofs.AuditRuns.{audit_memory}
-use Rattle.epg_resume.proofs.RunFacts.{fold_memory, resume_memory}
+use Rattle.epg_play.proofs.CourseRuns.{fold_memory, resume_memory}
 use Rattle.epg_cli.proofs.CommandFacts.{play_audit, listen_audit, live_audit, soak_audit, play_sends, live_sends, soak_sends, none_sends, audit_others, audit_is, audit_usage, audit_cause, audit_open, play_listen, play_live, listen_live, play_soak, listen_soak, live_soak, live_others, some_none, live_is, soak_is, listen_usage, live_usage, soak_usage, listen_open, soak_open, listen_cause, soak_cause, memory_usage, memory_read, play_is, play_opens, listen_is}
 use Rattle.epg_cli.proofs.top.run.Goals as goal
 

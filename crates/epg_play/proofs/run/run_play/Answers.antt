@@ -1,23 +1,30 @@
-use Rattle.std.proofs.Common.{ap, ◌∙◌, rules}
+use Rattle.std.proofs.Common.{◌≡◌, sym, ap, ◌∙◌, subst, rules, false}
+use Rattle.std.specs.Io.KnownBytes.{IsAtEnd}
+use Rattle.si_causes.specs.Causes.{Rose}
+use Rattle.epg_report.specs.declared.status.Status.TheVariants.{Done, ReadFault}
+use Rattle.epg_report.specs.declared.status.Origin.TheVariants.{Input}
 use Rattle.epg_report.specs.Told.{told}
-use Rattle.epg_play.proofs.RunFacts.{leaves_input}
-use Rattle.epg_play.proofs.PlayRunFacts.{play_run, play_memory, known, done_none, input_rose, air_rose, report_rose}
+use Rattle.epg_play.specs.Courses.{PlayedNew}
+use Rattle.epg_play.proofs.CourseRuns.{ran_new}
+use Rattle.epg_play.proofs.PlayRuns.{play_memory, play_run}
 use Rattle.epg_play.proofs.run.run_play.Goals as goal
 
 pub returns : goal.returns
 returns g c =
-    let air = told g.A.Sink.written g.A.Sink.faults c.args.air.now c.play-played.new.air in
+    let played = c.play_new-played in
+    let air = told g.A.Sink.written g.A.Sink.faults c.args.air.now played.new.air in
     let report = told g.R.Sink.written g.R.Sink.faults c.args.report.now c.finish.new.report in
-    let finished = c.finish.ensures.finished in
+    let same : c.input-2-1.given.0 ≡ played.new.lines.source.now = search rules in
+    let old : c.in-Ok.lines.source.now ≡ c.args.input.now = ap (λ r. r.source.now) c.in-Ok.ensures in
     record {
-      run = play_run _ air report c.finish.result
-          (λ text tells.
-          leaves_input g.S.Source.left c.play-played.new.lines.source.now _ c.play-played.result.stop text air report c.play-played.result.end c.finish.result (search rules)
-          (c.play-played.ensures.played text (ap (λ r. g.S.Source.left r.source.now) c.in-Ok.ensures ∙ tells)) finished)
-          (known c.play-played.result.stop _ report c.finish.result finished)
-          (λ e. (let none = done_none c.play-played.result.stop _ report c.finish.result finished e in search rules))
-          (λ e. (let rose = input_rose _ _ c.play-played.result.stop _ report c.finish.result c.play-played.ensures.read_cause finished e in search rules))
-          (air_rose _ _ c.play-played.result.stop _ report c.finish.result c.play-played.ensures.air_cause finished) (report_rose c.play-played.result.stop _ report c.finish.result finished);
+      run = play_run _ air report c.finish.result (ran_new false _ air report played.result c.finish.result
+          (λ text tells. subst (λ s. PlayedNew text (g.S.Source.left s) air.old air.new played.result) (sym same) (played.ensures.played text (ap g.S.Source.left old ∙ tells)))
+          played.ensures.known
+          (subst (λ s. played.result.met ≡ Done → IsAtEnd (g.S.Source.left s)) (sym same) played.ensures.end)
+          (subst (λ s. played.result.met ≡ ReadFault Input → Rose (g.S.Source.faults c.args.input.now) (g.S.Source.faults s)) (sym same)
+          (subst (λ s. played.result.met ≡ ReadFault Input → Rose (g.S.Source.faults s) (g.S.Source.faults played.new.lines.source.now)) old played.ensures.input_cause))
+          played.ensures.air_cause
+          c.finish.ensures);
     }
 
 pub returns-in_default : goal.returns-in_default

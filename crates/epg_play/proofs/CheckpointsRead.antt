@@ -1,0 +1,48 @@
+-- The checkpoint of a journal and of its air is read back.
+use Rattle.std.proofs.Common.{ℕ, List, map, subst}
+use Rattle.std.specs.Prelude.{Option, Some, None}
+use Rattle.version_book.specs.declared.key_version.KeyVersion.{KeyVersion}
+use Rattle.version_book.specs.Airings.{AiredTables}
+use Rattle.version_book.specs.Book.{BookStandsFor, given_entries}
+use Rattle.ts_packets.specs.declared.pid_counter.PidCounter.{PidCounter}
+use Rattle.ts_packets.specs.Bytes.{bytes_of_packet}
+use Rattle.ts_packets.specs.PidCounters.{AreCountersOf}
+use Rattle.air_model.specs.Air.{Aired, air, airings_of}
+use Rattle.air_paced.proofs.Airs.{timed_airs_are_airs}
+use Rattle.timed_player.specs.declared.clock.Clock.{Clock}
+use Rattle.cycle_player.specs.Airs.{IsAirAt}
+use Rattle.cycle_player.specs.Sending.{AreKeptAt}
+use Rattle.desk_core.proofs.TypedFacts.{accepted_typed}
+use Rattle.desk_checkpoint.proofs.CheckpointBack.{checkpoints_back}
+use Rattle.epg_play.specs.NeverRefused.{CheckpointsAreRead, HasNoNullAt}
+use Rattle.epg_play.proofs.KeysKept.{keys_written}
+use Rattle.epg_play.proofs.PidsKept.{counters_written}
+use Rattle.epg_play.proofs.ClockKept.{clock_written}
+
+-- ---- what is kept, at a bit rate or without one
+
+module _ (xs : List Aired) (keys : List KeyVersion) (pids : List PidCounter) (clock : Clock) where
+  stand : (rate : Option ℕ) → AreKeptAt rate xs keys pids clock → BookStandsFor (airings_of xs) (given_entries keys)
+  stand None kept = kept.versions
+  stand (Some rate) kept = kept.versions
+
+  count : (rate : Option ℕ) → AreKeptAt rate xs keys pids clock → AreCountersOf (map bytes_of_packet (air xs)) pids
+  count None kept = kept.counters
+  count (Some rate) kept = kept.counters
+
+  is_air : (rate : Option ℕ) → AreKeptAt rate xs keys pids clock → IsAirAt rate (airings_of xs) xs
+  is_air None kept = kept.is_air
+  is_air (Some rate) kept = timed_airs_are_airs rate xs kept.timed kept.can
+
+  no_null : (rate : Option ℕ) → AreKeptAt rate xs keys pids clock → HasNoNullAt rate (air xs)
+  no_null None kept = kept.no_null
+  no_null (Some rate) kept = tt
+
+pub checkpoints_read : CheckpointsAreRead
+checkpoints_read mux journal xs keys pids clock behind tail sound can same handed short =
+    let typed = accepted_typed journal can.typed in
+    let stands = subst (λ (past : List AiredTables). BookStandsFor past (given_entries keys)) same (stand xs keys pids clock mux.rate handed.kept) in
+    checkpoints_back mux journal (given_entries keys) pids clock can
+    (keys_written mux journal keys sound typed can.legal stands handed.ordered handed.bytes)
+    (counters_written mux.rate (airings_of xs) xs pids (is_air xs keys pids clock mux.rate handed.kept) (no_null xs keys pids clock mux.rate handed.kept) (count xs keys pids clock mux.rate handed.kept) handed.ascend handed.fit)
+    (clock_written mux.rate xs keys pids clock sound.sound.rate handed.kept short) behind tail

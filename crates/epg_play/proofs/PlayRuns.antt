@@ -1,0 +1,208 @@
+-- A run of `play` is one from a head-end that did nothing yet, whose report is the journal.
+use Rattle.std.proofs.Common.{◌≡◌, ℕ, List, [], ◌∷◌, ◌++◌, refl, sym, ap, ◌∙◌, subst}
+use Rattle.std.specs.Prelude.{Option, Some, None, Ok, Err, false}
+use Rattle.std.specs.Io.KnownBytes.{Appends}
+use Rattle.si_causes.specs.Causes.{AppendsFront}
+use Rattle.si_causes.specs.declared.stop.ReadStop.TheVariants.{Failed, TooLong as Overlong}
+use Rattle.si_causes.specs.Text.{text_lines}
+use Rattle.input_lines.specs.Ahead.{Ahead, Breaks, Came, Found, Stopped}
+use Rattle.input_lines.specs.Ahead as lines
+use Rattle.input_lines.specs.Going.{shown_whole}
+use Rattle.version_book.specs.Airings.{AiredTables}
+use Rattle.air_model.specs.Air.{Aired, airings_of}
+use Rattle.cycle_player.specs.Airs.{IsAirAt}
+use Rattle.cycle_player.specs.Tallies.{tally_of}
+use Rattle.mux_model.specs.declared.mux.Mux.{Mux}
+use Rattle.mux_config.specs.declared.fault.Word.TheVariants.{End}
+use Rattle.mux_config.specs.declared.fault.MuxFault.TheVariants.{Missing}
+use Rattle.mux_config.specs.Descriptions.{Description}
+use Rattle.mux_config.specs.Texts.{described, described_taken}
+use Rattle.journal_model.specs.declared.step.Entry.{Entry}
+use Rattle.journal_text.specs.Entries.{journal_text}
+use Rattle.journal_air.specs.Air.{airings}
+use Rattle.air_sending.specs.AirOf.{AirOf}
+use Rattle.epg_report.specs.declared.status.Status.{Status}
+use Rattle.epg_report.specs.declared.status.Status.TheVariants.{BadMux, BadScript, Disagrees, Done, Memory, ReadFault, TooLong as PastLimit, WriteFault}
+use Rattle.epg_report.specs.declared.status.Origin.TheVariants.{Input, Feed, Recording}
+use Rattle.epg_report.specs.declared.status.Outlet.TheVariants.{Air, Report}
+use Rattle.epg_report.specs.Rates.{rate_line}
+use Rattle.epg_report.specs.Texts.{fault_text, fault_line, fault_lines}
+use Rattle.epg_report.specs.Told.{ReportTaken, Reported, SourceGave}
+use Rattle.epg_play.specs.declared.stop.PlayStop.TheVariants.{NoMux as Undescribed, NoCommand as Refused, Disagrees as Differs, Read, Air as OnAir}
+use Rattle.epg_play.specs.Script.{Script, Stop, NoMux, NoCommand, Disagreed, TooLong, Unread, no_mux, script_in, script_taken, script_with}
+use Rattle.epg_play.specs.Leaves.{IsAired, IsAiredFront, IsOfPlay, IsSent, Leaves, LeavesAll, LeavesCut, LeavesDone, LeavesUnreported, PlayRun, first_journal, report_text, stop_text, whole_journal}
+use Rattle.epg_play.specs.Behind.{AirOn, CutAirOn, CutOn, LeavesBehind, StoppedOn, new_text, played_behind}
+use Rattle.epg_play.specs.CheckpointRuns.{Nothing}
+use Rattle.epg_play.specs.Over.{LeavesBy, LeavesOver}
+use Rattle.epg_play.proofs.CourseRuns.{NewRun, new_memory}
+use Rattle.epg_play.proofs.RunFacts.{tail_in, text_sent, whole}
+use Rattle.epg_play.proofs.SentFacts.{cut_sent, whole_sent}
+
+airings_are : (rate : Option ℕ) (all : List AiredTables) (xs : List Aired) → IsAirAt rate all xs → airings_of xs ≡ all
+airings_are None all xs is = is.airings_are
+airings_are (Some rate) all xs is = is.airings_are
+
+-- what is said of new entries and their cycles, without earlier ones, is the report of their journal
+text_is : (mux : Mux) (journal : List Entry) (cycles : List Aired) → IsAirAt mux.rate (airings mux journal) cycles → new_text mux journal cycles ≡ report_text (Some mux) journal
+text_is mux journal cycles is = ap (λ (l : List AiredTables). journal_text journal ++ rate_line mux.rate (tally_of mux.rate l)) (airings_are mux.rate (airings mux journal) cycles is)
+
+module _ (air report : ReportTaken) where
+  -- how what was sent of a script is heard
+  record Sends (script : Script) : Type 0 where
+    pub all : IsAired script.mux (whole_journal script) air → IsSent script.mux (whole_journal script) air
+    pub cut : (k : ℕ) → IsAiredFront script.mux (first_journal k script) air → IsSent script.mux (first_journal k script) air
+
+  -- what a run leaves of a script; where a read failed, of that of the bytes taken
+  abbrev LeavesOf : Script → Status → Type 0
+  LeavesOf script Done = LeavesDone script air report
+  LeavesOf script (BadMux fault) = LeavesAll script (NoMux fault) (stop_text (Undescribed fault)) air report
+  LeavesOf script (BadScript n) = LeavesAll script (NoCommand n) (stop_text (Refused n)) air report
+  LeavesOf script (Disagrees n kept found) = LeavesAll script (Disagreed n kept found) (stop_text (Differs n kept found)) air report
+  LeavesOf script (PastLimit Input) = LeavesAll script TooLong (stop_text (Read Overlong)) air report
+  LeavesOf script (ReadFault Input) = LeavesAll script Unread (stop_text (Read Failed)) air report
+  LeavesOf script (WriteFault Air) = LeavesCut script (stop_text OnAir) air report
+  LeavesOf script (WriteFault Report) = LeavesUnreported script air report
+  LeavesOf script status = Unit {0}
+
+  air_of : (mux : Mux) (journal : List Entry) → AirOn mux [] journal [] air → AirOf mux journal air.old air.new
+  air_of mux journal a = record { cycles = a.cycles; is_air = a.is_air; made = a.made; bytes = a.bytes }
+
+  front_of : (mux : Mux) (journal : List Entry) → CutAirOn mux [] journal [] air → IsAiredFront (Some mux) journal air
+  front_of mux journal a = record {
+    mux = mux;
+    is_described = refl;
+    front = a.front;
+    last = a.last;
+    entries = a.entries;
+    is_swap = a.is_swap;
+    cut = record { whole = a.whole; cut = a.cut; is_air = a.is_air; made = a.made; taken = a.taken; proper = a.proper; bytes = a.bytes };
+  }
+
+  -- of a script whose multiplex is described
+  module _ (mux : Mux) (ahead : Ahead) (sends : Sends (script_with (Came (Ok mux) ahead))) where
+    abbrev script : Script
+    script = script_with (Came (Ok mux) ahead)
+
+    abbrev all : List Entry
+    all = whole_journal script
+
+    -- a fault ended it after its commands
+    stopped : (stop : Stop) (status : Status) → fault_lines status ≡ fault_line (fault_text status) → StoppedOn false mux [] [] air report (played_behind mux [] ahead) stop status
+        → LeavesAll script stop (fault_text status) air report
+    stopped stop status line on =
+        let air_is = air_of mux all on.air_is in
+        record {
+          stopped = on.stopped;
+          air_is = air_is;
+          sent = sends.all air_is;
+          report_is = subst (λ (l : List ℕ). Reported report (l ++ fault_line (fault_text status))) (text_is mux all on.air_is.cycles on.air_is.is_air)
+              (subst (λ (l : List ℕ). Reported report (new_text mux all on.air_is.cycles ++ l)) line on.report_is);
+        }
+
+    -- its cycle was cut
+    cut : CutOn false mux [] [] air report (played_behind mux [] ahead) → LeavesCut script (stop_text OnAir) air report
+    cut on =
+        let journal = first_journal on.k script in
+        let air_is = front_of mux journal on.air_is in
+        record {
+          k = on.k;
+          air_is = air_is;
+          sent = sends.cut on.k air_is;
+          report_is = subst (λ (l : List ℕ). Reported report (l ++ fault_line (stop_text OnAir))) (text_is mux journal (on.air_is.whole ++ on.air_is.cut ∷ []) on.air_is.is_air) on.report_is;
+        }
+
+    described_leaves : (status : Status) → IsOfPlay status → LeavesBehind false mux [] [] air report ahead status → LeavesOf script status
+    described_leaves Done known (text, went, took) =
+        let air_is = air_of mux all went.air_is in
+        record {
+          ended = went.ended;
+          air_is = air_is;
+          sent = sends.all air_is;
+          report_is = subst (λ (l : List ℕ). Appends report.old report.new l) (went.text_is ∙ text_is mux all went.air_is.cycles went.air_is.is_air) took;
+        }
+    described_leaves (WriteFault Report) known (text, went, took) =
+        let air_is = air_of mux all went.air_is in
+        record {
+          ended = went.ended;
+          air_is = air_is;
+          sent = sends.all air_is;
+          report_is = subst (λ (l : List ℕ). AppendsFront report.old report.new l) (went.text_is ∙ text_is mux all went.air_is.cycles went.air_is.is_air) took;
+        }
+    described_leaves (BadScript n) known on = stopped (NoCommand n) (BadScript n) refl on
+    described_leaves (Disagrees n kept found) known on = stopped (Disagreed n kept found) (Disagrees n kept found) refl on
+    described_leaves (PastLimit Input) known on = stopped TooLong (PastLimit Input) refl on
+    described_leaves (ReadFault Input) known on = stopped Unread (ReadFault Input) refl on
+    described_leaves (WriteFault Air) known on = cut on
+    described_leaves (PastLimit (Feed f)) known on = absurd known
+    described_leaves (PastLimit Recording) known on = absurd known
+    described_leaves (ReadFault (Feed f)) known on = absurd known
+    described_leaves (ReadFault Recording) known on = absurd known
+    described_leaves (BadMux fault) known on = absurd on
+    described_leaves Memory known on = tt
+    described_leaves other known on = absurd known
+
+  -- of one whose multiplex is not
+  idle_leaves : (stop : Stop) (status : Status) → fault_lines status ≡ fault_line (fault_text status) → Nothing air report status → LeavesAll (no_mux stop) stop (fault_text status) air report
+  idle_leaves stop status line (took, said) = record {
+    stopped = refl;
+    air_is = took;
+    sent = took;
+    report_is = subst (λ (l : List ℕ). Reported report l) line said;
+  }
+
+  leaves_by : (found : Found Description) (status : Status) → IsOfPlay status → Sends (script_with found) → LeavesBy (Nothing air report) (λ mux. LeavesBehind false mux [] [] air report) found status → LeavesOf (script_with found) status
+  leaves_by (Came (Ok mux) ahead) status known sends on = described_leaves mux ahead sends status known on
+  leaves_by (Came (Err fault) ahead) status known sends (is, idle) =
+      subst (LeavesOf (no_mux (NoMux fault))) (sym is) (idle_leaves (NoMux fault) (BadMux fault) refl (subst (Nothing air report) is idle))
+  leaves_by (Stopped lines.End) status known sends (is, idle) =
+      subst (LeavesOf (no_mux (NoMux (Missing End)))) (sym is) (idle_leaves (NoMux (Missing End)) (BadMux (Missing End)) refl (subst (Nothing air report) is idle))
+  leaves_by (Stopped (lines.NoCommand n)) status known sends (is, idle) =
+      subst (LeavesOf (no_mux (NoMux (Missing End)))) (sym is) (idle_leaves (NoMux (Missing End)) (BadMux (Missing End)) refl (subst (Nothing air report) is idle))
+  leaves_by (Stopped lines.TooLong) status known sends (is, idle) =
+      subst (LeavesOf (no_mux TooLong)) (sym is) (idle_leaves TooLong (PastLimit Input) refl (subst (Nothing air report) is idle))
+  leaves_by (Stopped lines.Unread) status known sends (is, idle) =
+      subst (LeavesOf (no_mux Unread)) (sym is) (idle_leaves Unread (ReadFault Input) refl (subst (Nothing air report) is idle))
+
+  sends_in : (text : List ℕ) → Sends (script_in text)
+  sends_in text = record { all = text_sent text air; cut = λ k is. cut_sent (text_lines text).0 (tail_in text) air k is }
+
+  sends_taken : (taken : List ℕ) → Sends (script_taken taken)
+  sends_taken taken = record { all = whole_sent (shown_whole taken) Breaks air; cut = λ k is. cut_sent (shown_whole taken) Breaks air k is }
+
+  text_leaves : (text : List ℕ) (left : Option (List ℕ)) (status : Status) → IsOfPlay status → LeavesOver (Nothing air report) (λ mux. LeavesBehind false mux [] [] air report) text left status → Leaves text left air report status
+  text_leaves text left (ReadFault Input) known over = record {
+    taken = over.taken;
+    behind = over.rest;
+    text_is = over.text_is;
+    left_is = over.left_is;
+    leaves = leaves_by (described_taken over.taken) (ReadFault Input) known (sends_taken over.taken) over.leaves;
+  }
+  text_leaves text left Memory known over = tt
+  text_leaves text left Done known over = leaves_by (described text) Done known (sends_in text) over
+  text_leaves text left (BadMux fault) known over = leaves_by (described text) (BadMux fault) known (sends_in text) over
+  text_leaves text left (BadScript n) known over = leaves_by (described text) (BadScript n) known (sends_in text) over
+  text_leaves text left (Disagrees n kept found) known over = leaves_by (described text) (Disagrees n kept found) known (sends_in text) over
+  text_leaves text left (PastLimit Input) known over = leaves_by (described text) (PastLimit Input) known (sends_in text) over
+  text_leaves text left (PastLimit (Feed f)) known over = absurd known
+  text_leaves text left (PastLimit Recording) known over = absurd known
+  text_leaves text left (ReadFault (Feed f)) known over = absurd known
+  text_leaves text left (ReadFault Recording) known over = absurd known
+  text_leaves text left (WriteFault Air) known over = leaves_by (described text) (WriteFault Air) known (sends_in text) over
+  text_leaves text left (WriteFault Report) known over = leaves_by (described text) (WriteFault Report) known (sends_in text) over
+  text_leaves text left other known over = absurd known
+
+pub play_run : (input : SourceGave) (air report : ReportTaken) (status : Status) → NewRun false input air report status → PlayRun input air report status
+play_run input air report status run = record {
+  leaves = λ text tells. text_leaves air report text input.new status run.known (run.leaves text tells);
+  completes = run.completes;
+  whole = λ text tells ended no_input no_air no_report. whole (script_in text).stop status ended (run.completes text tells no_input no_air no_report);
+  known = run.known;
+  end = run.end;
+  input_cause = run.input_cause;
+  air_cause = run.air_cause;
+  report_cause = run.report_cause;
+}
+
+-- where memory was wanting before any line was read
+pub play_memory : (input : SourceGave) (air report : ReportTaken) (status : Status) → status ≡ Memory → PlayRun input air report status
+play_memory input air report status e = play_run input air report status (new_memory false input air report status e)

@@ -1,0 +1,150 @@
+-- What was played over the text of an input, from what reading it and playing it told.
+use Rattle.std.proofs.Common.{◌≡◌, ℕ, List, ◌++◌, refl, sym, ap, ◌∙◌, subst}
+use Rattle.std.specs.Prelude.{Option, Some, None, Ok, Err, Result}
+use Rattle.std.specs.Io.KnownBytes.{Consumes}
+use Rattle.si_causes.specs.Reading.{Reading, fresh as unread}
+use Rattle.si_causes.proofs.TextFacts.{fresh_text}
+use Rattle.si_causes.specs.declared.stop.ReadStop.TheVariants.{Failed, TooLong as Overlong}
+use Rattle.input_lines.specs.Ahead.{Ahead, Breaks, Came, Found, Stopped, ahead}
+use Rattle.input_lines.specs.Ahead as lines
+use Rattle.input_lines.specs.Going.{WereWhole}
+use Rattle.input_lines.specs.Reads.{Leaves as LeavesAhead, Passes, ahead_with}
+use Rattle.input_lines.proofs.Steps.{whole_more}
+use Rattle.mux_model.specs.declared.mux.Mux.{Mux}
+use Rattle.mux_config.specs.declared.fault.Word.TheVariants.{End}
+use Rattle.mux_config.specs.declared.fault.MuxFault.{MuxFault}
+use Rattle.mux_config.specs.declared.fault.MuxFault.TheVariants.{Missing}
+use Rattle.mux_config.specs.declared.stop.MuxStop.{MuxStop}
+use Rattle.mux_config.specs.declared.stop.MuxStop.TheVariants as mux
+use Rattle.mux_config.specs.Descriptions.{Description, description_ahead, fault_in}
+use Rattle.mux_config.specs.Reads.{ReadMux}
+use Rattle.mux_config.specs.Texts.{described, described_taken}
+use Rattle.mux_config.proofs.Reading.{fault_read, read_stopped}
+use Rattle.journal_model.specs.Steps.{Command}
+use Rattle.desk_checkpoint.specs.declared.start.Start.{Start}
+use Rattle.epg_report.specs.declared.status.Status.{Status}
+use Rattle.epg_report.specs.declared.status.Status.TheVariants.{BadCheckpoint, BadMux, Memory, OpenFault, ReadFault, TooLong as PastLimit}
+use Rattle.epg_report.specs.declared.status.Origin.TheVariants.{Input, Feed, Recording}
+use Rattle.epg_play.specs.declared.stop.PlayStop.{PlayStop}
+use Rattle.epg_play.specs.declared.stop.PlayStop.TheVariants.{NoMux as Undescribed, NoCommand as Refused, Disagrees as Differs, Read, Air as OnAir, Memory as NoMemory}
+use Rattle.epg_play.specs.Leaves.{mux_stop}
+use Rattle.epg_play.specs.Leaves.{status_for}
+use Rattle.epg_play.specs.Played.{RestDid, RestTaken, course}
+use Rattle.epg_play.specs.Script.{Stop}
+use Rattle.epg_play.proofs.RunFacts.{bytes_left}
+use Rattle.epg_play.specs.declared.played.Played.{Played}
+use Rattle.epg_play.specs.Beginning.{IsNotBegun}
+use Rattle.epg_play.specs.Courses.{CourseBehind, DeskDid, HasPlayedOn, met_by}
+use Rattle.epg_play.specs.Over.{LeavesBy, LeavesOver}
+
+-- ---- where a multiplex is described
+
+module _ {S : Type 0} (left : S → Option (List ℕ)) (source : S) (mid new : Reading S) (text : List ℕ) (mux : Mux) (told : left source ≡ Some text)
+    (d : LeavesAhead left description_ahead (Came (Ok mux)) (unread source) mid text) (came : Passes left description_ahead (Came (Ok mux)) (unread source) mid)
+    (start : Start) (Begins : Start → Type 0) (begins : Begins start) (before now : Option (List ℕ)) (played : Played) (on : HasPlayedOn left mid new start before now played)
+    (Idle : Status → Type 0) (B : Mux → Ahead → Status → Type 0) (wrap : (ls : Ahead) → CourseBehind Begins before now played ls → B mux ls played.met) where
+  abbrev rest_of : Ahead → List Command × Stop
+  rest_of ls = course start.shift start.desk.mux start.desk.entries None ls
+
+  abbrev Did : Ahead → Result (Unit {0}) PlayStop → Type 0
+  Did ls r = DeskDid (rest_of ls) start.desk on.behind.end.desk r
+
+  course_by : (ls : Ahead) (r : Result (Unit {0}) PlayStop) → on.stop ≡ r → Did ls r → CourseBehind Begins before now played ls
+  course_by ls r e did = record {
+    start = start;
+    begins = begins;
+    behind = on.behind;
+    is = on.is;
+    folded = on.folded;
+    shift = on.shift;
+    stop = on.stop;
+    met = on.met;
+    within = on.within;
+    did = subst (Did ls) (sym e) did;
+    aired = on.aired;
+    tallied = on.tallied;
+  }
+
+  met_as : (r : Result (Unit {0}) PlayStop) → on.stop ≡ r → played.met ≡ met_by r
+  met_as r e = on.met ∙ ap met_by e
+
+  whole : (r : Result (Unit {0}) PlayStop) → on.stop ≡ r → Did (ahead mid d.rest) r → LeavesBy Idle B (described text) (met_by r)
+  whole r e did =
+      subst (λ (found : Found Description). LeavesBy Idle B found (met_by r)) (sym d.reads)
+      (subst (B mux (ahead mid d.rest)) (met_as r e) (wrap (ahead mid d.rest) (course_by (ahead mid d.rest) r e did)))
+
+  did_by : (r : Result (Unit {0}) PlayStop) → on.stop ≡ r → RestDid (rest_of (ahead mid d.rest)) start.desk on.behind.end.desk r
+  did_by r e = subst (RestDid (rest_of (ahead mid d.rest)) start.desk on.behind.end.desk) e (on.did d.rest d.told)
+
+  taken_by : (r : Result (Unit {0}) PlayStop) → on.stop ≡ r → RestTaken start.shift left mid new start.desk on.behind.end.desk r
+  taken_by r e = subst (RestTaken start.shift left mid new start.desk on.behind.end.desk) e on.taken
+
+  by : (r : Result (Unit {0}) PlayStop) → on.stop ≡ r → LeavesOver Idle B text (left new.source) (met_by r)
+  by (Ok u) e = whole (Ok u) e (did_by (Ok u) e)
+  by (Err (Undescribed fault)) e = absurd (did_by (Err (Undescribed fault)) e)
+  by (Err (Refused n)) e = whole (Err (Refused n)) e (did_by (Err (Refused n)) e)
+  by (Err (Differs n kept found)) e = whole (Err (Differs n kept found)) e (did_by (Err (Differs n kept found)) e)
+  by (Err (Read Overlong)) e = whole (Err (Read Overlong)) e (did_by (Err (Read Overlong)) e)
+  by (Err (Read Failed)) e =
+      let p = taken_by (Err (Read Failed)) e in
+      let both : WereWhole left (unread source) new (came.looked.lines ++ p.lines) = whole_more left (unread source) mid new came.looked.lines p.lines came.looked.handed p.unended p.whole in
+      let lines_are = ahead_with mid p.lines Breaks in
+      let is : described_taken both.more ≡ Came (Ok mux) lines_are = ap (λ l. description_ahead (ahead_with (unread source) l Breaks)) both.whole ∙ came.reads p.lines Breaks in
+      let b = bytes_left (left new.source) text both.more (subst (λ (o : Option (List ℕ)). Consumes o (left new.source) both.more) told both.gave) in
+      record {
+        taken = both.more;
+        rest = b.0;
+        text_is = b.1;
+        left_is = b.2;
+        leaves = subst (λ (found : Found Description). LeavesBy Idle B found (ReadFault Input)) (sym is)
+            (subst (B mux lines_are) (met_as (Err (Read Failed)) e) (wrap lines_are (course_by lines_are (Err (Read Failed)) e (p.stop, p.did))));
+      }
+  by (Err OnAir) e = whole (Err OnAir) e (did_by (Err OnAir) e)
+  by (Err NoMemory) e = tt
+
+  pub played_over : LeavesOver Idle B text (left new.source) played.met
+  played_over = subst (LeavesOver Idle B text (left new.source)) (sym on.met) (by on.stop refl)
+
+-- nothing was played, since nothing was begun
+pub refused_over : {S : Type 0} (left : S → Option (List ℕ)) (source : S) (mid : Reading S) (text : List ℕ) (after : Option (List ℕ)) (mux : Mux)
+    (d : LeavesAhead left description_ahead (Came (Ok mux)) (unread source) mid text) (Idle : Status → Type 0) (B : Mux → Ahead → Status → Type 0) (met : Status)
+    → IsNotBegun met → B mux (ahead mid d.rest) met → LeavesOver Idle B text after met
+refused_over left source mid text after mux d Idle B (OpenFault n) known b = subst (λ (found : Found Description). LeavesBy Idle B found (OpenFault n)) (sym d.reads) b
+refused_over left source mid text after mux d Idle B (BadCheckpoint n) known b = subst (λ (found : Found Description). LeavesBy Idle B found (BadCheckpoint n)) (sym d.reads) b
+refused_over left source mid text after mux d Idle B (PastLimit origin) known b = subst (λ (found : Found Description). LeavesBy Idle B found (PastLimit origin)) (sym d.reads) b
+refused_over left source mid text after mux d Idle B (ReadFault Recording) known b = subst (λ (found : Found Description). LeavesBy Idle B found (ReadFault Recording)) (sym d.reads) b
+refused_over left source mid text after mux d Idle B (ReadFault Input) known b = absurd known
+refused_over left source mid text after mux d Idle B (ReadFault (Feed f)) known b = absurd known
+refused_over left source mid text after mux d Idle B Memory known b = tt
+refused_over left source mid text after mux d Idle B other known b = absurd known
+
+-- ---- where none is
+
+fault_over : (Idle : Status → Type 0) (B : Mux → Ahead → Status → Type 0) (found : Found Description) (fault : MuxFault) → fault_in found ≡ Some fault → Idle (BadMux fault) → LeavesBy Idle B found (BadMux fault)
+fault_over Idle B (Came (Ok mux) ls) fault e idle = cc e
+fault_over Idle B (Came (Err here) ls) fault e idle = (let same : here ≡ fault = cc e in (ap BadMux (sym same), idle))
+fault_over Idle B (Stopped (lines.NoCommand n)) fault e idle = (let same : Missing End ≡ fault = cc e in (ap BadMux (sym same), idle))
+fault_over Idle B (Stopped lines.End) fault e idle = cc e
+fault_over Idle B (Stopped lines.TooLong) fault e idle = cc e
+fault_over Idle B (Stopped lines.Unread) fault e idle = cc e
+
+pub undescribed_over : {S : Type 0} (left : S → Option (List ℕ)) (faults : S → ℕ) (alike : S → S → Type 0) (old new : Reading S) (source : S) (text : List ℕ) (stop : MuxStop) (Idle : Status → Type 0) (B : Mux → Ahead → Status → Type 0)
+    → old ≡ unread source → left source ≡ Some text → ReadMux left faults alike old new (Err stop) → Idle (status_for (mux_stop stop)) → LeavesOver Idle B text (left new.source) (status_for (mux_stop stop))
+undescribed_over left faults alike old new source text (mux.Fault fault) Idle B e told read idle =
+    let here = subst (λ r. ReadMux left faults alike r new (Err (mux.Fault fault))) e read in
+    fault_over Idle B (described text) fault (fault_read left faults alike (unread source) new fault text refl (fresh_text left source ∙ told) here) idle
+undescribed_over left faults alike old new source text (mux.Read Overlong) Idle B e told read idle =
+    let here = read_stopped left faults alike (unread source) new Overlong (subst (λ r. ReadMux left faults alike r new (Err (mux.Read Overlong))) e read) in
+    subst (λ (found : Found Description). LeavesBy Idle B found (status_for (mux_stop (mux.Read Overlong)))) (sym (here.gives refl text (fresh_text left source ∙ told))) (refl, idle)
+undescribed_over left faults alike old new source text (mux.Read Failed) Idle B e told read idle =
+    let fault = (read_stopped left faults alike (unread source) new Failed (subst (λ r. ReadMux left faults alike r new (Err (mux.Read Failed))) e read)).takes refl in
+    let is : described_taken fault.whole.more ≡ Stopped lines.Unread = ap (λ l. description_ahead (ahead_with (unread source) l Breaks)) fault.whole.whole ∙ fault.reads in
+    let b = bytes_left (left new.source) text fault.whole.more (subst (λ (o : Option (List ℕ)). Consumes o (left new.source) fault.whole.more) told fault.whole.gave) in
+    record {
+      taken = fault.whole.more;
+      rest = b.0;
+      text_is = b.1;
+      left_is = b.2;
+      leaves = subst (λ (found : Found Description). LeavesBy Idle B found (ReadFault Input)) (sym is) (refl, idle);
+    }
+undescribed_over left faults alike old new source text mux.Memory Idle B e told read idle = tt

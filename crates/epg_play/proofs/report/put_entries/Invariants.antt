@@ -1,0 +1,7 @@
+use Rattle.std.proofs.Common.{◌≡◌, ◌++◌, take}
+use Rattle.journal_text.specs.Entries.{journal_text}
+use Rattle.checkpoint_laws.specs.Going.{all_raised}
+use Rattle.epg_play.proofs.report.put_entries.Given as goal
+
+abbrev pub invariant-loop-entry : goal.invariant-loop-entry
+invariant-loop-entry l = l.out.items ≡ l.fn.out.items ++ journal_text (all_raised l.shift (take l.entry-index l.entries))

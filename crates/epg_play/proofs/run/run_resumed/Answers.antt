@@ -1,0 +1,32 @@
+use Rattle.std.proofs.Common.{◌≡◌, sym, ap, ◌∙◌, refl, subst, rules}
+use Rattle.std.specs.Io.KnownBytes.{IsAtEnd}
+use Rattle.si_causes.specs.Causes.{Rose}
+use Rattle.epg_report.specs.declared.status.Status.TheVariants.{Done, ReadFault}
+use Rattle.epg_report.specs.declared.status.Origin.TheVariants.{Input}
+use Rattle.epg_report.specs.Told.{asked, told}
+use Rattle.epg_play.specs.Courses.{PlayedResumed}
+use Rattle.epg_play.proofs.CourseRuns.{resume_memory, resume_run}
+use Rattle.epg_play.proofs.run.run_resumed.Goals as goal
+
+pub returns : goal.returns
+returns g c =
+    let played = c.play_from-played in
+    let opener = asked g.O.Opener.files g.O.Opener.tried g.O.Opener.faults g.O.Opener.read_faults c.args.opener.now played.new.opener in
+    let air = told g.A.Sink.written g.A.Sink.faults c.args.air.now played.new.air in
+    let report = told g.R.Sink.written g.R.Sink.faults c.args.report.now c.finish.new.report in
+    let same : c.input-2-1.given.0 ≡ played.new.lines.source.now = search rules in
+    let old : c.in-Ok.lines.source.now ≡ c.args.input.now = ap (λ r. r.source.now) c.in-Ok.ensures in
+    record {
+      run = resume_run c.args.path.now c.args.fold opener _ air report played.result c.finish.result
+          (λ text tells files has. subst (λ s. PlayedResumed c.args.path.now files text (g.S.Source.left s) opener.tried_old opener.tried_new air.old air.new played.result) (sym same)
+          (played.ensures.played text (ap g.S.Source.left old ∙ tells) files has))
+          played.ensures.known played.ensures.asked
+          (subst (λ s. played.result.met ≡ Done → IsAtEnd (g.S.Source.left s)) (sym same) played.ensures.end)
+          (subst (λ s. played.result.met ≡ ReadFault Input → Rose (g.S.Source.faults c.args.input.now) (g.S.Source.faults s)) (sym same)
+          (subst (λ s. played.result.met ≡ ReadFault Input → Rose (g.S.Source.faults s) (g.S.Source.faults played.new.lines.source.now)) old played.ensures.input_cause))
+          played.ensures.open_cause played.ensures.read_cause played.ensures.air_cause
+          c.finish.ensures;
+    }
+
+pub returns-in_default : goal.returns-in_default
+returns-in_default g c = record { run = resume_memory c.args.path.now c.args.fold _ _ _ _ c.out_of_memory.result c.out_of_memory.ensures.status refl }
