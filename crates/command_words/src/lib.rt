@@ -5,8 +5,7 @@
 //! `Memory` only where they spell one. The grammar decides by itself, without taking memory; clap
 //! then splits the options.
 //!
-//! Tested in `headend_rows` and `epg_live_rows`: words that are no command, options in each
-//! spelling.
+//! Tested by whole runs: words that are no command, options in each spelling.
 //!
 //! Not promised: that `Memory` comes only where memory runs out.
 #![tactic(auto)]

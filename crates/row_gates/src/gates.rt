@@ -58,13 +58,15 @@ fn hold(text: &str) -> Option<(Place, Place)> {
 }
 
 impl Holding {
-    /// The gate of holds with commas between; `-` holds nothing.
+    /// The gate of holds with commas between; `-` and an empty text hold nothing. An error comes where one of them is no hold, or memory is
+    /// wanting.
     pub fn of(alloc: Global, text: &str) -> Result<Holding, AllocError> {
         let mut holds = Vec::new(alloc);
-        for text in text.split(',') {
-            if let Some(hold) = hold(text) {
-                holds.push(hold)?;
-            }
+        for text in text
+            .split(',')
+            .filter(|text| *text != "-" && !text.is_empty())
+        {
+            holds.push(hold(text).ok_or(AllocError)?)?;
         }
         Ok(Holding {
             holds,
