@@ -1,18 +1,18 @@
 -- A job that reads values and does each in a turn.
-use Rattle.std.proofs.Common.{◌≡◌, ℕ, ◌≤◌, List, [], ◌∷◌, ◌++◌, refl, sym, ap, ◌∙◌, subst}
+use Rattle.std.proofs.Common.{◌≡◌, ℕ, ◌≤◌, List, [], ◌∷◌, ◌++◌, arith, refl, sym, ap, ◌∙◌, subst}
 use Rattle.std.specs.Prelude.{Option, Some, None, Result, Ok, Err, IfSome}
 use Rattle.si_causes.proofs.CauseFacts.{Rose-from}
-use Rattle.si_causes.specs.Reading.{Reading, text_left}
+use Rattle.si_causes.specs.Reading.{Reading}
 use Rattle.si_causes.specs.declared.stop.ReadStop.{ReadStop}
 use Rattle.si_causes.specs.declared.stop.ReadStop.TheVariants.{Failed, TooLong as Overlong}
 use Rattle.input_lines.specs.declared.stop.EditStop.{EditStop}
 use Rattle.input_lines.specs.declared.stop.EditStop.TheVariants.{NoCommand as Refused, Read, Memory}
-use Rattle.input_lines.specs.Ahead.{Ahead, Found, Came, Stopped, Stop, End, ahead, and_all}
-use Rattle.input_lines.specs.Reads.{Gives, Leaves, Passes, Takes}
+use Rattle.input_lines.specs.Ahead.{Ahead, Found, Came, Stop, and_all}
+use Rattle.input_lines.specs.Reads.{NextOf, Passes, Takes}
 use Rattle.journal_model.specs.declared.step.Step.{Step}
 use Rattle.journal_model.specs.declared.step.Outcome.{Outcome}
 use Rattle.desk_hall.specs.Turn.{View, Made, Idle}
-use Rattle.desk_hall.specs.Reads.{DidEach, ToldDid, TakenDid, HasReadCause}
+use Rattle.desk_hall.specs.Reads.{DidEach, HasReadCause, ReaderDid, Stream}
 use Rattle.desk_hall.proofs.Passes.{each_none, each_more, each_idle}
 use Rattle.desk_hall.proofs.Follows.{Follows, follows_none, follows_more, ended, stopped, wanting, taken}
 
@@ -54,59 +54,93 @@ stays_stopped {S = S} V (Some t) stop old now new v w e s h =
     let at = subst (λ (o : Option ReadStop). IfSome o (λ z. ((let r : Result V EditStop = Err stop in r) ≡ Err (Read z)) × (new ≡ now))) (ap (λ (r : Reading S). r.stop) s.0 ∙ sym e) h in
     (cc (at.0), at.1 ∙ s.0, s.1)
 
-module _ {S T : Type 0} (left : S → Known) (first : Ahead → Found T) (all : Ahead → List T × Stop) (go_on : (lines : Ahead) → all lines ≡ and_all (first lines) (λ (value : T). all)) (step : T → Step) where
+module _ {S T : Type 0} (st : Stream S) (first : Ahead → Found T) (all : Ahead → List T × Stop) (go_on : (lines : Ahead) → all lines ≡ and_all (first lines) (λ (value : T). all)) (step : T → Step) where
   -- the values that were read from old to now were done in turns from v to w
   pub record Going (old now : Reading S) (v w : View) : Type 0 where
     pub done : List T
     pub did : DidEach step v w done
-    pub follows : old.stop ≡ None → Follows left first all go_on old now done
+    pub follows : old.stop ≡ None → Follows st.left first all go_on old now done
     pub going : old.stop ≡ None → now.stop ≡ None
     pub stuck : Stuck old.stop old now v w
+    pub later : st.faults old.source ≤ st.faults now.source
+    pub same : st.same old.source now.source
 
-  pub going_none : (reader : Reading S) (v : View) → Going reader reader v v
-  going_none reader v = record {
+  pub going_none : (reader : Reading S) (v : View) → st.same reader.source reader.source → Going reader reader v v
+  going_none reader v same = record {
     done = [];
     did = each_none step v;
-    follows = λ e. follows_none left first all go_on reader;
+    follows = λ e. follows_none st.left first all go_on reader;
     going = λ e. e;
     stuck = stuck_same reader.stop reader v;
+    later = omega arith;
+    same = same;
   }
 
-  -- a value was read and done
-  pub going_more : (old now new : Reading S) (v m w : View) (value : T) (outcome : Outcome) → (g : Going old now v m) → now.stop ≡ None
-      → ((text : List ℕ) → text_left left now ≡ Some text → Leaves left first (Came value) now new text) → Passes left first (Came value) now new
-      → Made (step value) outcome m w → Going old new v w
-  going_more old now new v m w value outcome g is gives takes e =
-      let none = was_going old.stop old now v m refl g.stuck is in
-      record {
-        done = g.done ++ value ∷ [];
-        did = each_more step v m w g.done value outcome g.did e;
-        follows = λ o. follows_more left first all go_on old now new g.done value (g.follows o) gives takes;
-        going = λ o. takes.looked.going;
-        stuck = subst (λ (o : Option ReadStop). Stuck o old new v w) (sym none) tt;
-      }
+  module _ (chain : (a b c : S) → st.same a b → st.same b c → st.same a c) (old now new : Reading S) (v m w : View) (g : Going old now v m) where
+    abbrev Reads : Result (Option T) EditStop → Type 0
+    Reads r = NextOf st.left st.faults st.same first now new r
 
-  -- ---- what the job says behind it
+    -- the reader had not stopped where a value came
+    pub went : (value : T) → Reads (Ok (Some value)) → old.stop ≡ None
+    went value r = was_going old.stop old now v m refl g.stuck (not_stopped now.stop (Some value) now new r.sticky)
 
-  pub told_end : (old now : Reading S) (v w : View) → Going old now v w → ((rest : List ℕ) → text_left left now ≡ Some rest → first (ahead now rest) ≡ Stopped End)
-      → old.stop ≡ None → (text : List ℕ) → text_left left old ≡ Some text → ToldDid (DidEach step v w) (all (ahead old text)) None
-  told_end old now v w g gives o text told = ended left first all go_on (DidEach step v w) old now g.done (g.follows o) g.did gives text told
+    -- a value was read and done
+    pub going_more : (value : T) (outcome : Outcome) → Reads (Ok (Some value)) → Made (step value) outcome m w → Going old new v w
+    going_more value outcome r e =
+        let is = not_stopped now.stop (Some value) now new r.sticky in
+        let next : Passes st.left first (Came value) now new = r.takes is in
+        record {
+          done = g.done ++ value ∷ [];
+          did = each_more step v m w g.done value outcome g.did e;
+          follows = λ o. follows_more st.left first all go_on old now new g.done value (g.follows o) (r.gives is) next;
+          going = λ o. next.looked.going;
+          stuck = subst (λ (o : Option ReadStop). Stuck o old new v w) (sym (went value r)) tt;
+          later = omega (arith, g.later, r.later);
+          same = chain old.source now.source new.source g.same r.same;
+        }
 
-  pub told_stop : (old now new : Reading S) (v w : View) (stop : EditStop) → Going old now v w → (now.stop ≡ None → (rest : List ℕ) → text_left left now ≡ Some rest → Gives left first now new rest (Err stop))
-      → old.stop ≡ None → (text : List ℕ) → text_left left old ≡ Some text → ToldDid (DidEach step v w) (all (ahead old text)) (Some stop)
-  told_stop old now new v w stop g gives o text told = stopped left first all go_on (DidEach step v w) old now new g.done stop (g.follows o) g.did (gives (g.going o)) text told
+    -- ---- what the job did
 
-  pub told_want : (old now : Reading S) (v m w : View) → Going old now v m → Idle m w
-      → old.stop ≡ None → (text : List ℕ) → text_left left old ≡ Some text → ToldDid (DidEach step v w) (all (ahead old text)) (Some Memory)
-  told_want old now v m w g i o text told = wanting left first all go_on (DidEach step v w) old now g.done (g.follows o) (each_idle step v m w g.done g.did i) text told
+    -- all of it
+    pub read_end : Reads (Ok None) → ReaderDid step all st v m old new None
+    read_end r = record {
+      did = (g.done, g.did);
+      told = λ o text told. ended st.left first all go_on (DidEach step v m) old now g.done (g.follows o) g.did (λ rest is. (r.gives (g.going o) rest is).0) text told;
+      taken = λ o. tt;
+      end = λ o. r.at_end refl;
+      cause = λ o. tt;
+      later = omega (arith, g.later, r.later);
+      same = chain old.source now.source new.source g.same r.same;
+    }
 
-  pub taken_stop : (faults : S → ℕ) (old now new : Reading S) (v w : View) (stop : EditStop) → Going old now v w → (now.stop ≡ None → Takes left faults first now new (Err stop))
-      → old.stop ≡ None → TakenDid (DidEach step v w) left all old new (Some stop)
-  taken_stop faults old now new v w stop g takes o = taken left first all go_on (DidEach step v w) faults old now new g.done stop (g.follows o) g.did (takes (g.going o))
+    caused : (stop : EditStop) → (now.stop ≡ None → Takes st.left st.faults first now new (let e : Result T EditStop = Err stop in e)) → old.stop ≡ None → HasReadCause (st.faults old.source) (st.faults new.source) (Some stop)
+    caused (Read Failed) takes o = Rose-from (st.faults old.source) (st.faults now.source) (st.faults new.source) g.later (takes (g.going o)).cause
+    caused (Read Overlong) takes o = tt
+    caused (Refused n) takes o = tt
+    caused Memory takes o = tt
 
-  pub caused : (faults : S → ℕ) (old now new : Reading S) (v w : View) (stop : EditStop) → Going old now v w → faults old.source ≤ faults now.source → (now.stop ≡ None → Takes left faults first now new (Err stop))
-      → old.stop ≡ None → HasReadCause (faults old.source) (faults new.source) (Some stop)
-  caused faults old now new v w (Read Failed) g le takes o = Rose-from (faults old.source) (faults now.source) (faults new.source) le (takes (g.going o)).cause
-  caused faults old now new v w (Read Overlong) g le takes o = tt
-  caused faults old now new v w (Refused n) g le takes o = tt
-  caused faults old now new v w Memory g le takes o = tt
+    -- up to a stop of the reader
+    pub read_stop : (stop : EditStop) → Reads (Err stop) → ReaderDid step all st v m old new (Some stop)
+    read_stop stop r = record {
+      did = (g.done, g.did);
+      told = λ o text told. stopped st.left first all go_on (DidEach step v m) old now new g.done stop (g.follows o) g.did (r.gives (g.going o)) text told;
+      taken = λ o. taken st.left first all go_on (DidEach step v m) st.faults old now new g.done stop (g.follows o) g.did (r.takes (g.going o));
+      end = λ none. absurd (cc none);
+      cause = λ o. caused stop r.takes o;
+      later = omega (arith, g.later, r.later);
+      same = chain old.source now.source new.source g.same r.same;
+    }
+
+    -- up to want of memory for a turn
+    pub read_want : (value : T) → Reads (Ok (Some value)) → Idle m w → ReaderDid step all st v w old new (Some Memory)
+    read_want value r i =
+        let did = each_idle step v m w g.done g.did i in
+        record {
+          did = (g.done, did);
+          told = λ o text told. wanting st.left first all go_on (DidEach step v w) old now g.done (g.follows o) did text told;
+          taken = λ o. tt;
+          end = λ none. absurd (cc none);
+          cause = λ o. tt;
+          later = omega (arith, g.later, r.later);
+          same = chain old.source now.source new.source g.same r.same;
+        }

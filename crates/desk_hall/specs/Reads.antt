@@ -1,13 +1,14 @@
 -- What a job that reads commands from lines, and does each in a turn, leaves.
-use Rattle.std.specs.Prelude.{◌≡◌, ℕ, false, List, map, take, Option, Some, None}
+use Rattle.std.specs.Prelude.{◌≡◌, ◌≤◌, ℕ, false, List, map, take, Option, Some, None}
+use Rattle.std.specs.Io.KnownBytes.{IsAtEnd}
 use Rattle.si_causes.specs.Causes.{Rose}
-use Rattle.si_causes.specs.Reading.{Reading}
+use Rattle.si_causes.specs.Reading.{Reading, text_left}
 use Rattle.si_causes.specs.declared.stop.ReadStop.TheVariants.{Failed, TooLong as Overlong}
 use Rattle.input_lines.specs.Going.{WereWhole}
 use Rattle.journal_model.specs.declared.edit.Edit.{Edit}
 use Rattle.input_lines.specs.declared.stop.EditStop.{EditStop}
 use Rattle.input_lines.specs.declared.stop.EditStop.TheVariants.{NoCommand as Refused, Read, Memory}
-use Rattle.input_lines.specs.Ahead.{Ahead, Breaks, Stop, End, NoCommand, TooLong, Unread, values_ahead}
+use Rattle.input_lines.specs.Ahead.{Ahead, Breaks, Stop, End, NoCommand, TooLong, Unread, ahead, values_ahead}
 use Rattle.input_lines.specs.Reads.{ahead_with}
 use Rattle.journal_model.specs.declared.control.Control.{Control}
 use Rattle.journal_model.specs.declared.control.Control.TheVariants.{Tick as tick, Publish as publish}
@@ -66,3 +67,28 @@ DidEach step v w values = Did (commands_by v.own.low step values) v w
 abbrev pub HasReadCause : ℕ → ℕ → Option EditStop → Type 0
 HasReadCause before now (Some (Read Failed)) = Rose before now
 HasReadCause before now stop = Unit {0}
+
+-- ---- a job that reads
+
+-- What a source shows: the text that it has left, how many of its reads have failed, and whether it
+-- is the one that was lent.
+pub record Stream (S : Type 0) : Type 1 where
+  pub left : S → Option (List ℕ)
+  pub faults : S → ℕ
+  pub same : S → S → Type 0
+
+abbrev pub stream : {S : Type 0} → (S → Option (List ℕ)) → (S → ℕ) → (S → S → Type 0) → Stream S
+stream left faults same = record { left = left; faults = faults; same = same }
+
+-- A job read from old to new, where `all` is what is ahead, and did the step of each value in a turn
+-- of its own, from v to w.
+pub record ReaderDid {T S : Type 0} (step : T → Step) (all : Ahead → List T × Stop) (s : Stream S)
+    (v w : View) (old new : Reading S) (stop : Option EditStop) : Type 0 where
+  pub did : (values : List T) × DidEach step v w values
+  pub told : old.stop ≡ None → (text : List ℕ) → text_left s.left old ≡ Some text
+      → ToldDid (DidEach step v w) (all (ahead old text)) stop
+  pub taken : old.stop ≡ None → TakenDid (DidEach step v w) s.left all old new stop
+  pub end : stop ≡ None → IsAtEnd (s.left new.source)
+  pub cause : old.stop ≡ None → HasReadCause (s.faults old.source) (s.faults new.source) stop
+  pub later : s.faults old.source ≤ s.faults new.source
+  pub same : s.same old.source new.source

@@ -1,13 +1,9 @@
 // The job of the control, which ticks and publishes.
-ghost use Rattle.std.specs.Prelude.{◌≡◌, ◌≤◌, List, ℕ, None, Some, IfSome};
-ghost use Rattle.std.specs.Io.KnownBytes.{IsAtEnd};
-ghost use Rattle.si_causes.specs.Reading.{text_left};
+ghost use Rattle.std.specs.Prelude.{◌≡◌, Some, IfSome};
 ghost use Rattle.input_lines.specs.declared.stop.EditStop.TheVariants.{Read};
-ghost use Rattle.input_lines.specs.Ahead.{ahead};
 ghost use Rattle.journal_model.specs.Steps.{IsControlWithin, IsStepWithin};
-ghost use Rattle.journal_model.specs.declared.control.Control.{Control as AControl};
 ghost use Rattle.desk_hall.specs.Turn.{KeepsNumbers};
-ghost use Rattle.desk_hall.specs.Reads.{control_step, controls_ahead, DidEach, ToldDid, TakenDid, HasReadCause};
+ghost use Rattle.desk_hall.specs.Reads.{ReaderDid, control_step, controls_ahead, stream};
 
 use crate::hall::Hall;
 use crate::state::HallPass;
@@ -37,17 +33,13 @@ impl Hall {
         pass: &mut HallPass,
         lines: &mut LineReader<S>,
     ) -> Option<EditStop>
-        requires turns { pass.old.turns ≡ self.now.turns }
-        ensures did { (controls : List AControl) × DidEach control_step pass.old pass.new controls }
-        ensures told { lines.old.stop ≡ None → (text : List ℕ) → text_left S.left lines.old ≡ Some text
-            → ToldDid (DidEach control_step pass.old pass.new) (controls_ahead (ahead lines.old text)) result }
-        ensures taken { lines.old.stop ≡ None → TakenDid (DidEach control_step pass.old pass.new) S.left controls_ahead lines.old lines.new result }
+        requires { pass.old.turns ≡ self.now.turns }
+        ensures read { ReaderDid control_step controls_ahead (stream S.left S.faults S.same)
+            pass.old pass.new lines.old lines.new result }
         ensures keeps { KeepsNumbers pass.old pass.new }
-        ensures sticky { IfSome lines.old.stop (λ stop. (result ≡ Some (Read stop)) × (lines.new ≡ lines.old) × (pass.new ≡ pass.old)) }
-        ensures end { result ≡ None → IsAtEnd (S.left lines.new.source) }
-        ensures cause { lines.old.stop ≡ None → HasReadCause (S.faults lines.old.source) (S.faults lines.new.source) result }
-        ensures later { S.faults lines.old.source ≤ S.faults lines.new.source }
-        ensures same { S.same lines.old.source lines.new.source }
+        // A reader that had stopped gives its stop, and no turn is taken.
+        ensures sticky { IfSome lines.old.stop (λ stop. (result ≡ Some (Read stop))
+            × (lines.new ≡ lines.old) × (pass.new ≡ pass.old)) }
     {
         'controls: loop {
             match next_control(alloc, lines) {

@@ -1,13 +1,9 @@
 // The jobs that read: one for a feed, and one for the control.
-ghost use Rattle.std.specs.Prelude.{◌≡◌, ◌≤◌, List, ℕ, None, Some, IfSome};
-ghost use Rattle.std.specs.Io.KnownBytes.{IsAtEnd};
-ghost use Rattle.si_causes.specs.Reading.{text_left};
-ghost use Rattle.journal_model.specs.declared.edit.Edit.{Edit as AnEdit};
+ghost use Rattle.std.specs.Prelude.{◌≡◌, Some, IfSome};
 ghost use Rattle.input_lines.specs.declared.stop.EditStop.TheVariants.{Read};
-ghost use Rattle.input_lines.specs.Ahead.{ahead};
 ghost use Rattle.script_lines.specs.Edits.{edits_ahead};
 ghost use Rattle.desk_hall.specs.Turn.{KeepsNumbers};
-ghost use Rattle.desk_hall.specs.Reads.{edit_step, DidEach, ToldDid, TakenDid, HasReadCause};
+ghost use Rattle.desk_hall.specs.Reads.{ReaderDid, edit_step, stream};
 
 use crate::hall::Hall;
 use crate::state::HallPass;
@@ -27,17 +23,13 @@ impl Hall {
         lines: &mut LineReader<F>,
         gate: &G,
     ) -> Option<EditStop>
-        requires turns { pass.old.turns ≡ self.now.turns }
-        ensures did { (edits : List AnEdit) × DidEach (edit_step feed) pass.old pass.new edits }
-        ensures told { lines.old.stop ≡ None → (text : List ℕ) → text_left F.left lines.old ≡ Some text
-            → ToldDid (DidEach (edit_step feed) pass.old pass.new) (edits_ahead (ahead lines.old text)) result }
-        ensures taken { lines.old.stop ≡ None → TakenDid (DidEach (edit_step feed) pass.old pass.new) F.left edits_ahead lines.old lines.new result }
+        requires { pass.old.turns ≡ self.now.turns }
+        ensures read { ReaderDid (edit_step feed) edits_ahead (stream F.left F.faults F.same)
+            pass.old pass.new lines.old lines.new result }
         ensures keeps { KeepsNumbers pass.old pass.new }
-        ensures sticky { IfSome lines.old.stop (λ stop. (result ≡ Some (Read stop)) × (lines.new ≡ lines.old) × (pass.new ≡ pass.old)) }
-        ensures end { result ≡ None → IsAtEnd (F.left lines.new.source) }
-        ensures cause { lines.old.stop ≡ None → HasReadCause (F.faults lines.old.source) (F.faults lines.new.source) result }
-        ensures later { F.faults lines.old.source ≤ F.faults lines.new.source }
-        ensures same { F.same lines.old.source lines.new.source }
+        // A reader that had stopped gives its stop, and no turn is taken.
+        ensures sticky { IfSome lines.old.stop (λ stop. (result ≡ Some (Read stop))
+            × (lines.new ≡ lines.old) × (pass.new ≡ pass.old)) }
     {
         let mut place = 0u64;
         'edits: loop {
