@@ -3,6 +3,7 @@ use Rattle.std.proofs.Common.{◌≡◌, ℕ, zero, suc, ◌+◌, ◌≤◌, ◌
 use Rattle.std.specs.Prelude.{Option, Some, None, Ok, Err, Result}
 use Rattle.std.specs.List.{AllByRecursion}
 use Rattle.std.proofs.lemmas.List.{map-append}
+use Rattle.std.proofs.lemmas.Slice.Zip.{AllZip-long}
 use Rattle.si_causes.specs.Reading.{Reading}
 use Rattle.si_causes.specs.declared.stop.ReadStop.TheVariants.{Failed, TooLong as Overlong}
 use Rattle.mux_model.specs.declared.mux.Mux.{Mux}
@@ -23,19 +24,20 @@ use Rattle.cycle_player.specs.Making.{tick_then}
 use Rattle.journal_air.specs.Air.{airings, airings_by}
 use Rattle.headend_jobs.specs.Playing.{AreTicks, HasPlayedTo, IsNextTick, SwapsPlayed, TurnsMade}
 use Rattle.headend_jobs.specs.Ticking.{tick_by, tick_of, ticks_for, ticks_of, turns_by}
+use Rattle.headend_jobs.proofs.Cutting.{feeds_len}
 use Rattle.headend_jobs.proofs.Ending.{airs_are}
-use Rattle.headend_jobs.proofs.Running.{swaps_did}
+use Rattle.headend_jobs.proofs.Running.{feeds_back, swaps_did}
 use Rattle.headend_jobs.proofs.Ticking.{own_tick, own_ticks, ticks_len}
 use Rattle.turn_lock.specs.declared.known.Caller.{Caller}
 use Rattle.turn_lock.specs.Knowledge.{NotLowest, TableId}
 use Rattle.headend_jobs.specs.declared.jobs.FeedJob.{FeedJob}
 use Rattle.desk_hall.specs.Turn.{View, Did}
-use Rattle.desk_hall.specs.Reads.{DidEach, ToldDid, TakenDid, commands_by, edit_step, control_step, controls_ahead}
-use Rattle.headend_jobs.specs.Jobs.{ReaderDid}
-use Rattle.headend_jobs.specs.Live.{callers_back, new_pass, FeedsRan, LiveDid}
+use Rattle.desk_hall.specs.Reads.{DidEach, ReaderDid, Stream, ToldDid, TakenDid, commands_by, edit_step, control_step, controls_ahead}
+use Rattle.headend_jobs.specs.Crews.{AreBack}
+use Rattle.headend_jobs.specs.Jobs.{FeedDid, FeedsDid, Streams, callers_of, new_feeds, new_pass}
+use Rattle.headend_jobs.specs.Live.{LiveDid}
 use Rattle.headend_jobs.specs.Callers.{CommandsAre, CallerRead, FeedsRead, PlayerSwapped, HaveTheirCommands}
 use Rattle.headend_jobs.proofs.WholeJournal.{of}
-use Rattle.headend_jobs.proofs.Cutting.{callers_are, job_own}
 
 module _ {T : Type 0} (P Q : List T → Type 0) (f : (values : List T) → P values → Q values) where
   told_map : (all : List T × Stop) (stop : Option EditStop) → ToldDid P all stop → ToldDid Q all stop
@@ -60,15 +62,15 @@ commands_of step journal who final v w low empty is values d =
     ∙ map-append command_of d.added final
     ∙ ap (λ (l : List Command). l ++ map command_of final) (d.commands_are ∙ ap (λ (n : ℕ). commands_by n step values) low)
 
-caller_read : {T S : Type 0} (step : T → Step) (all : Ahead → List T × Stop) (left : S → Option (List ℕ)) (faults : S → ℕ) (is_same : S → S → Type 0) (journal : List Entry) (who : ℕ) (final : List Entry)
+caller_read : {T S : Type 0} (step : T → Step) (all : Ahead → List T × Stop) (st : Stream S) (journal : List Entry) (who : ℕ) (final : List Entry)
     (v w : View) (old new : Reading S) (stop : Option EditStop) → v.own.low ≡ who → v.own.made ≡ [] → of who journal ≡ w.own.made ++ final
-    → ReaderDid step all left faults is_same v w old new stop → CallerRead step all left journal who (map command_of final) old new stop
-caller_read {T = T} step all left faults is_same journal who final v w old new stop low empty is d =
+    → ReaderDid step all st v w old new stop → CallerRead step all st.left journal who (map command_of final) old new stop
+caller_read {T = T} step all st journal who final v w old new stop low empty is d =
     let f : (values : List T) → DidEach step v w values → CommandsAre journal who (commands_by who step values ++ map command_of final) = commands_of step journal who final v w low empty is in
     record {
       did = (d.did.0, f d.did.0 d.did.1);
       told = λ o text told. told_map (DidEach step v w) (λ values. CommandsAre journal who (commands_by who step values ++ map command_of final)) f (all (ahead old text)) stop (d.told o text told);
-      taken = λ o. taken_map (DidEach step v w) (λ values. CommandsAre journal who (commands_by who step values ++ map command_of final)) f left all old new stop (d.taken o);
+      taken = λ o. taken_map (DidEach step v w) (λ values. CommandsAre journal who (commands_by who step values ++ map command_of final)) f st.left all old new stop (d.taken o);
     }
 
 -- a pass that had made nothing
@@ -130,41 +132,35 @@ module _ (mux : Mux) (journal final : List Entry) (v w : View) (old new : Sendin
 swaps_low : (mux : Mux) (n : ℕ) (v w : View) (old new : Sending) (mid now : Option (List ℕ)) (end : Result (Unit {0}) SendStop) → SwapsPlayed true mux n v w old new mid now end → w.own.low ≡ v.own.low
 swaps_low mux n v w old new mid now end played = ap (λ (z : View). z.own.low) (swaps_did true mux n v w old new mid now end played).1.gained
 
-module _ {F : Type 0} (left : F → Option (List ℕ)) (faults : F → ℕ) (is_same : F → F → Type 0) (t : TableId) (mux : Mux) (journal : List Entry) where
-  feeds_read : (n : ℕ) (rs : List (Reading F)) (jobs : List (FeedJob F)) → FeedsRan left faults is_same t mux n rs jobs
-      → AllByRecursion (λ (c : Caller Entry). of c.low journal ≡ c.made) (callers_back jobs) → FeedsRead left journal n rs jobs
-  feeds_read n [] jobs ran each = ran
-  feeds_read n (r ∷ rs) jobs (rest, job, is, did, more) each =
-      let here = subst (AllByRecursion (λ (c : Caller Entry). of c.low journal ≡ c.made)) (callers_are left faults is_same t mux n r rs jobs rest job is did) each in
-      let low = (job_own left faults is_same t mux n r job did).0 in (
-        rest,
-        job,
-        is,
-        did.feed,
-        caller_read (edit_step n) edits_ahead left faults is_same journal (n + 1) [] (new_pass t mux (n + 1)) job.pass r job.lines job.stop refl refl
-            (ap (λ (k : ℕ). of k journal) (sym low) ∙ here.0 ∙ sym (append-nil job.pass.own.made)) did.read,
-        feeds_read (n + 1) rs rest more here.1,
-      )
+feeds_read : {F : Type 0} (st : Stream F) (t : TableId) (mux : Mux) (journal : List Entry) (n : ℕ) (rs : List (Reading F)) (jobs : List (FeedJob F)) → FeedsDid st (new_feeds t mux n rs) jobs
+    → AllByRecursion (λ (c : Caller Entry). of c.low journal ≡ c.made) (callers_of jobs) → FeedsRead st.left journal n rs jobs
+feeds_read st t mux journal n [] [] did each = tt
+feeds_read st t mux journal n [] (job ∷ jobs) did each = absurd did
+feeds_read st t mux journal n (r ∷ rs) [] did each = absurd did
+feeds_read st t mux journal n (r ∷ rs) (job ∷ jobs) (did, more) (one, each) = (
+  did.feed,
+  caller_read (edit_step n) edits_ahead st journal (n + 1) [] (new_pass t mux (n + 1)) job.pass r job.lines job.stop refl refl
+      (ap (λ (k : ℕ). of k journal) (sym (ap (λ (z : View). z.own.low) did.read.did.1.gained)) ∙ one ∙ sym (append-nil job.pass.own.made)) did.read,
+  feeds_read st t mux journal (n + 1) rs jobs more each,
+)
 
-  -- numbers above those of the feeds are nobody's
-  feeds_below : (n : ℕ) (rs : List (Reading F)) (jobs : List (FeedJob F)) → FeedsRan left faults is_same t mux n rs jobs → (k : ℕ) → n + 1 + length rs ≤ k → NotLowest (callers_back jobs) k
-  feeds_below n [] jobs ran k le = subst (λ (l : List (FeedJob F)). NotLowest (callers_back l) k) (sym ran) tt
-  feeds_below n (r ∷ rs) jobs (rest, job, is, did, more) k le =
-      let low = (job_own left faults is_same t mux n r job did).0 in
-      subst (λ (l : List (Caller Entry)). NotLowest l k) (sym (callers_are left faults is_same t mux n r rs jobs rest job is did))
-      (λ e. absurd (omega (arith, e, low, le)), feeds_below (n + 1) rs rest more k (omega (arith, le)))
+-- numbers above those of the feeds are nobody's
+feeds_below : {F : Type 0} (t : TableId) (n : ℕ) (jobs : List (FeedJob F)) → AreBack t n jobs → (k : ℕ) → n + 1 + length jobs ≤ k → NotLowest (callers_of jobs) k
+feeds_below t n [] back k le = tt
+feeds_below t n (job ∷ jobs) (one, more) k le = (λ e. absurd (let low = one.lone.low in omega (arith, e, low, le)), feeds_below t (n + 1) jobs more k (omega (arith, le)))
 
-module _ {F S : Type 0} (left : F → Option (List ℕ)) (faults : F → ℕ) (is_same : F → F → Type 0) (leftS : S → Option (List ℕ)) (faultsS : S → ℕ) (is_sameS : S → S → Type 0) where
-  pub callers_have : (turns : TableId) (mux : Mux) (cycles : ℕ) (readers : List (Reading F)) (reader : Reading S) (playing : Sending) (before now : Option (List ℕ)) (journal : List Entry) (sent : Result (Unit {0}) SendStop)
-      → (d : LiveDid left faults is_same leftS faultsS is_sameS turns mux cycles readers reader playing before now journal sent)
-      → HasPlayedTo mux [] [] playing before before → HaveTheirCommands left leftS mux journal cycles readers reader d.feeds d.control d.player d.final
-  callers_have turns mux cycles readers reader playing before now journal sent d played =
-      let low = ap (λ (z : View). z.own.low) d.control_did.did.1.gained in
-      let player_low = swaps_low mux cycles (new_pass turns mux 1) d.player.pass playing d.player.player before d.mid d.player.end d.player_did in
-      record {
-        feeds_read = feeds_read left faults is_same turns mux journal 1 readers d.feeds d.feeds_ran d.journal_did.each.1;
-        control_read = caller_read control_step controls_ahead leftS faultsS is_sameS journal 0 d.final (new_pass turns mux 0) d.control.pass reader d.control.lines d.control.stop refl refl
-            (ap (λ (k : ℕ). of k journal) (sym low) ∙ d.journal_did.mine) d.control_did;
-        player_swapped = player_swapped mux journal d.final (new_pass turns mux 1) d.player.pass playing d.player.player before d.mid refl refl d.journal_did.each.0 played (airs_are d.journal_did) d.began cycles d.player.end d.player_did;
-        others = λ k le. d.journal_did.others k (λ e. absurd (omega (arith, e, low, le)), (λ e. absurd (omega (arith, e, player_low, le)), feeds_below left faults is_same turns mux journal 1 readers d.feeds d.feeds_ran k (omega (arith, le))));
-      }
+pub callers_have : {F S : Type 0} (st : Streams F S) (turns : TableId) (mux : Mux) (cycles : ℕ) (readers : List (Reading F)) (reader : Reading S) (playing : Sending) (before now : Option (List ℕ)) (journal : List Entry) (sent : Result (Unit {0}) SendStop)
+    → (d : LiveDid st turns mux cycles readers reader playing before now journal sent)
+    → HasPlayedTo mux [] [] playing before before → HaveTheirCommands st mux journal cycles readers reader d.feeds d.control d.player.end d.final
+callers_have st turns mux cycles readers reader playing before now journal sent d played =
+    let low = ap (λ (z : View). z.own.low) d.control_did.did.1.gained in
+    let player_low = swaps_low mux cycles (new_pass turns mux 1) d.player.pass playing d.played before d.mid d.player.end d.player_did in
+    let back = feeds_back st.feeds turns mux 1 readers d.feeds d.feeds_did in
+    let len = AllZip-long (FeedDid st.feeds) (new_feeds turns mux 1 readers) d.feeds d.feeds_did ∙ feeds_len turns mux 1 readers in
+    record {
+      feeds_read = feeds_read st.feeds turns mux journal 1 readers d.feeds d.feeds_did d.journal_did.each.1;
+      control_read = caller_read control_step controls_ahead st.control journal 0 d.final (new_pass turns mux 0) d.control.pass reader d.control.lines d.control.stop refl refl
+          (ap (λ (k : ℕ). of k journal) (sym low) ∙ d.journal_did.mine) d.control_did;
+      player_swapped = player_swapped mux journal d.final (new_pass turns mux 1) d.player.pass playing d.played before d.mid refl refl d.journal_did.each.0 played (airs_are d.journal_did) d.began cycles d.player.end d.player_did;
+      others = λ k le. d.journal_did.others k (λ e. absurd (omega (arith, e, low, le)), (λ e. absurd (omega (arith, e, player_low, le)), feeds_below turns 1 d.feeds back k (omega (arith, le, len))));
+    }

@@ -29,7 +29,7 @@ use Rattle.air_sending.specs.AirOf.{AirOf, CutAirOf, SomeAirOf, AirDid}
 use Rattle.air_sending.specs.Tallied.{IsTallyOf}
 use Rattle.timed_player.specs.Tally.{Tallied}
 use Rattle.cycle_player.specs.Tallies.{tally_of}
-use Rattle.headend_jobs.specs.Live.{halts, Halted, Went, FinalDid, LastDid, SentDid, PlayedAs, TallyDid, EndDid}
+use Rattle.headend_jobs.specs.Live.{EndDid, FinalDid, Halted, LastDid, PlayedAs, TallyDid, Went, and_sent, halts}
 use Rattle.desk_hall.proofs.Passes.{made_began, more_none}
 use Rattle.headend_jobs.proofs.Airs.{own_air, put_longer}
 use Rattle.headend_jobs.proofs.Closing.{AllMade, TurnsDone, airs_final, closed_final, closed_plain, commands_made, swaps_own, tick_turns, turns_gained, went_turns}
@@ -109,13 +109,9 @@ stays_final mux v w old new mid now r (inl f) =
     let l = swaps_of mux f.published w old new mid now r f.played in
     stays_turns_done v w _ (went_done (tick_now true old) v f.between f.published w f.number f.ticked f.made l)
 
-stays_last : (stopped : Bool) (mux : Mux) (v w : View) (old new : Sending) (mid now : Known) (r : Result (Unit {0}) SendStop) → LastDid stopped mux v w old new mid now r → Stays v w
-stays_last false mux v w old new mid now r d = stays_final mux v w old new mid now r d
-stays_last true mux v w old new mid now r d = stays_same v w d.1
-
-pub stays : (end : Result (Unit {0}) SendStop) (stopped : Bool) (mux : Mux) (v w : View) (old new : Sending) (mid now : Known) (r : Result (Unit {0}) SendStop) → SentDid end stopped mux v w old new mid now r → Stays v w
-stays (Ok u) stopped mux v w old new mid now r d = stays_last stopped mux v w old new mid now r d
-stays (Err stop) stopped mux v w old new mid now r d = stays_same v w d.1
+pub stays : (halted : Bool) (mux : Mux) (v w : View) (old new : Sending) (mid now : Known) (r : Result (Unit {0}) SendStop) → LastDid halted mux v w old new mid now r → Stays v w
+stays false mux v w old new mid now r d = stays_final mux v w old new mid now r d
+stays true mux v w old new mid now r d = stays_same v w d.1
 
 pub stays_numbers : (v w : View) → Stays v w → (w.own.low ≡ v.own.low) × (w.own.span ≡ v.own.span) × (w.finished ≡ v.finished)
 stays_numbers v w (added, e) = (ap (λ (z : View). z.own.low) e, ap (λ (z : View). z.own.span) e, ap (λ (z : View). z.finished) e)
@@ -414,7 +410,7 @@ module _ (mux : Mux) (control player : View) (feeds : List (Caller Entry)) (old 
   ended_going r new u false sent (inl f) = ended_final r new u sent f
   ended_going r new u false sent (inr h) = subst (λ (z : Result (Unit {0}) SendStop). EndDid mux control player feeds old (Ok u) false mid now journal new.tally z) (sym h.memory) (ended_halted r new.tally u sent h)
 
-  pub ended : {X Y : Type 0} → Ready → (new : Sending) (end : Result (Unit {0}) SendStop) (stopped : Bool) (x : Option X) (y : Option Y) (sent : Result (Unit {0}) SendStop) → stopped ≡ (is_some x || is_some y)
-      → SentDid end stopped mux v w old new mid now sent → EndDid mux control player feeds old end (halts end x y) mid now journal new.tally sent
-  ended r new (Err stop) stopped x y sent e d = subst (λ (z : Result (Unit {0}) SendStop). EndDid mux control player feeds old (Err stop) true mid now journal new.tally z) (sym d.0) (ended_plain r new (Err stop) d.1 d.2 d.3)
-  ended r new (Ok u) stopped x y sent e d = subst (λ (b : Bool). EndDid mux control player feeds old (Ok u) b mid now journal new.tally sent) e (ended_going r new u stopped sent d)
+  pub ended : {X Y : Type 0} → Ready → (new : Sending) (end last : Result (Unit {0}) SendStop) (x : Option X) (y : Option Y)
+      → LastDid (halts end x y) mux v w old new mid now last → EndDid mux control player feeds old end (halts end x y) mid now journal new.tally (and_sent end last)
+  ended r new (Err stop) last x y d = ended_plain r new (Err stop) d.1 d.2 d.3
+  ended r new (Ok u) last x y d = ended_going r new u (is_some x || is_some y) last d

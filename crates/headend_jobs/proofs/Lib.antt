@@ -1,14 +1,14 @@
 pub mod Airs
-pub mod ManyJobs
 pub mod WholeJournal
 pub mod Ticking
 pub mod Closing
 pub mod Ending
 pub mod Cutting
+pub mod Joining
 pub mod Running
 pub mod CallerFacts
 pub mod Swaps
-pub mod HandedBack
 pub mod TypedJournals
 pub mod Posts
 pub mod Viewing
+pub mod HallFacts

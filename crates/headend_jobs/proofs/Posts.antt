@@ -1,7 +1,6 @@
 -- What is posted, swap by swap.
 use Rattle.std.proofs.Common.{◌≡◌, ℕ, List, [], ◌∷◌, ◌++◌, map, refl, sym, ap, ◌∙◌, subst, append-nil, append_assoc}
 use Rattle.std.specs.Prelude.{Option, Some, None, Ok, Err, OnOk, Result}
-use Rattle.air_sending.specs.declared.send.SendStop.{SendStop}
 use Rattle.std.specs.List.{AllByRecursion}
 use Rattle.std.proofs.lemmas.List.{append_cancel_left}
 use Rattle.std.proofs.lemmas.List.Elements.{All-from_recursion}
@@ -73,17 +72,6 @@ if_ok X (Err e) x = tt
 pub ok_then : {T E : Type 0} (X Y : Type 0) (r : Result T E) → (X → Y) → OnOk r X → OnOk r Y
 ok_then X Y (Ok u) f x = f x
 ok_then X Y (Err e) f x = tt
-
-pub ok_both : {T E : Type 0} (X Y Z : Type 0) (r : Result T E) → (X → Y → Z) → OnOk r X → OnOk r Y → OnOk r Z
-ok_both X Y Z (Ok u) f x y = f x y
-ok_both X Y Z (Err e) f x y = tt
-
--- where all was sent, the player had not failed
-pub ok_before : (X : Type 0) (end sent : Result (Unit {0}) SendStop) → ((stop : SendStop) → end ≡ Err stop → sent ≡ Err stop) → OnOk end X → OnOk sent X
-ok_before X (Ok u) (Ok v) failed x = x
-ok_before X (Ok u) (Err e) failed x = tt
-ok_before X (Err e) (Ok v) failed x = cc (failed e refl)
-ok_before X (Err e) (Err f) failed x = tt
 
 -- ---- posts of entries
 

@@ -1,40 +1,46 @@
 -- What the jobs of a run leave, of what a run gave them.
-use Rattle.std.proofs.Common.{◌≡◌, ◌≢◌, inl, inr, ℕ, ◌+◌, ◌≤◌, ◌<◌, Bool, true, List, [], ◌∷◌, ◌++◌, length, take, refl, sym, ap, ◌∙◌, subst, arith, lt_of_not-le}
-use Rattle.std.specs.Prelude.{Option, Some, None, Result, Ok, Err, OnOk, slice_index_or, ◌||◌, is_some}
+use Rattle.std.proofs.Common.{◌≡◌, ◌≢◌, inl, inr, ℕ, ◌+◌, ◌≤◌, ◌<◌, Bool, true, false, List, [], ◌∷◌, ◌++◌, length, map, take, refl, sym, ap, ◌∙◌, subst, arith, lt_of_not-le}
+use Rattle.std.specs.Prelude.{Option, Some, None, Result, Ok, Err, OnOk, ◌||◌, is_some}
 use Rattle.std.specs.List.{AllByRecursion}
 use native.Mathlib.Decide.{ℕ_discrete, dec_le}
 use mathlib.Core.Logic.{dite}
+use mathlib.Core.List.{IsPrefix}
+use Rattle.si_time.specs.declared.moment.Moment.{Moment}
 use Rattle.mux_model.specs.declared.mux.Mux.{Mux}
 use Rattle.si_causes.specs.Causes.{Rose}
-use Rattle.si_causes.proofs.CauseFacts.{Appends-nothing}
-use Rattle.air_sending.specs.OnAir.{HasAirCause, IsPlayerOf}
 use Rattle.si_causes.specs.Reading.{Reading}
+use Rattle.si_causes.proofs.CauseFacts.{Appends-nothing}
 use Rattle.cycle_player.specs.Airs.{AreMadeAt}
-use Rattle.cycle_player.specs.Sending.{Sending, AtEnd}
+use Rattle.cycle_player.specs.Making.{tick_then}
+use Rattle.cycle_player.specs.Sending.{AtEnd, AtEndAt, Sending}
 use Rattle.cycle_player.specs.Tallies.{tally_of}
+use Rattle.cycle_player.proofs.Making.{end_tells}
 use Rattle.timed_player.specs.Tally.{no_cycles}
+use Rattle.air_model.specs.Air.{Aired}
+use Rattle.journal_model.specs.declared.control.Control.{Control}
+use Rattle.journal_model.specs.declared.control.Control.TheVariants.{Tick, Publish}
+use Rattle.journal_model.specs.declared.edit.Edit.{Edit}
+use Rattle.journal_model.specs.declared.step.Step.{Step}
 use Rattle.journal_model.specs.declared.step.Entry.{Entry}
+use Rattle.journal_model.specs.Steps.{Command, command_of}
+use Rattle.journal_air.specs.Air.{airings, airings_by}
 use Rattle.air_sending.specs.declared.send.SendStop.{SendStop}
 use Rattle.air_sending.specs.declared.send.SendStop.TheVariants.{Air, Memory}
+use Rattle.air_sending.specs.OnAir.{HasAirCause, IsPlayerOf, is_swap}
 use Rattle.turn_lock.specs.declared.known.Caller.{Caller}
-use Rattle.turn_lock.specs.Knowledge.{TableId, HasAny, first_pass, lower_part, upper_part}
+use Rattle.turn_lock.specs.Knowledge.{HasAny, TableId}
+use Rattle.desk_hall.specs.Turn.{Did, View}
+use Rattle.desk_hall.specs.Reads.{DidEach, Stream, commands_by, control_step, edit_step}
 use Rattle.headend_jobs.specs.declared.jobs.FeedJob.{FeedJob}
 use Rattle.headend_jobs.specs.declared.jobs.ControlJob.{ControlJob}
-use Rattle.headend_jobs.specs.declared.jobs.PlayerJob.{PlayerJob}
-use Rattle.desk_hall.specs.Turn.{View, Did}
-use Rattle.si_time.specs.declared.moment.Moment.{Moment}
-use mathlib.Core.List.{IsPrefix}
-use Rattle.cycle_player.specs.Making.{tick_then}
-use Rattle.cycle_player.proofs.Making.{end_tells}
-use Rattle.journal_model.specs.Steps.{Command}
-use Rattle.journal_air.specs.Air.{airings, airings_by}
+use Rattle.headend_jobs.specs.Crews.{AreBack, Lone}
+use Rattle.headend_jobs.specs.Jobs.{ControlDid, FeedsDid, callers_of, new_control, new_feeds, new_pass}
+use Rattle.headend_jobs.specs.Live.{LastMade, PlayedAs, and_sent, halts}
 use Rattle.headend_jobs.specs.Playing.{HasPlayedTo, HasPlayedFront, HasPlayedSome, SwapsPlayed}
+use Rattle.headend_jobs.specs.Sends.{Wrote}
 use Rattle.headend_jobs.specs.Ticking.{tick_by, tick_now, tick_of, ticks_for, turns_by}
-use Rattle.headend_jobs.proofs.Ticking.{own_tick, ticks_len}
-use Rattle.headend_jobs.specs.Jobs.{FeedDid, ControlDid, PlayerDid}
 use Rattle.headend_jobs.specs.Whole.{NoSwaps, SwapsNot}
-use Rattle.headend_jobs.specs.Live.{callers_back, halts, new_pass, new_control, new_player, jobs_back, FeedsRan, LastMade, PlayedAs}
-use Rattle.headend_jobs.proofs.Cutting.{control_no_swaps, feeds_apart, feeds_have, feeds_swaps, ran, zip_of, Zip}
+use Rattle.headend_jobs.proofs.Ticking.{own_tick, ticks_len}
 
 pub swaps_did : (ticking : Bool) (mux : Mux) (n : ℕ) (v w : View) (old new : Sending) (mid now : Option (List ℕ)) (end : Result (Unit {0}) SendStop) → SwapsPlayed ticking mux n v w old new mid now end
     → (commands : List Command) × Did commands v w
@@ -85,79 +91,102 @@ module _ (mux : Mux) (v w : View) (old new : Sending) (mid now : Option (List �
     last_told n (Ok u) x y who sent played last = subst (λ (o : Option Moment). LastMade (is_some x || is_some y) o who final sent) (tick_told n u played) last
     last_told n (Err stop) x y who sent played last = last
 
--- what is known of a pass of one number behind its turns
-pub record Lone (t : TableId) (who : ℕ) (w : View) : Type 0 where
-  pub turns : w.turns ≡ t
-  pub low : w.own.low ≡ who
-  pub span : w.own.span ≡ 1
-  pub alone : w.finished ≡ []
+-- ---- the passes after the jobs
 
-pub control_lone : {S : Type 0} (left : S → Option (List ℕ)) (faults : S → ℕ) (is_same : S → S → Type 0) (t : TableId) (mux : Mux) (old new : ControlJob S) → old ≡ new_control t mux old.lines → ControlDid left faults is_same old new
-    → Lone t 0 new.pass × NoSwaps new.pass.own.made × (new.pass.on ≡ Some mux)
-control_lone {S = S} left faults is_same t mux old new is d =
-    let did = d.did.1 in
-    let pass : old.pass ≡ new_pass t mux 0 = ap (λ (j : ControlJob S). j.pass) is in (
-      record {
-        turns = ap (λ (z : View). z.turns) did.gained ∙ ap (λ (z : View). z.turns) pass;
-        low = ap (λ (z : View). z.own.low) did.gained ∙ ap (λ (z : View). z.own.low) pass;
-        span = ap (λ (z : View). z.own.span) did.gained ∙ ap (λ (z : View). z.own.span) pass;
-        alone = ap (λ (z : View). z.finished) did.gained ∙ ap (λ (z : View). z.finished) pass;
-      },
-      control_no_swaps old.pass new.pass d.did.0 (ap (λ (z : View). z.own.made) pass) did,
-      ap (λ (z : View). z.on) did.gained ∙ ap (λ (z : View). z.on) pass,
-    )
+-- nothing is left of a cycle at its end
+pub end_left : (rate : Option ℕ) (xs : List Aired) (s : Sending) → AtEndAt rate xs s → s.left ≡ []
+end_left None xs s e = e.none
+end_left (Some rate) xs s e = e.none
 
-pub player_lone : (t : TableId) (old new : PlayerJob) (mid now : Option (List ℕ)) (before after : ℕ) → old ≡ new_player t old.mux old.cycles old.player → PlayerDid old new mid now before after → Lone t 1 new.pass
-player_lone t old new mid now before after is d =
-    let did = (swaps_did true old.mux old.cycles old.pass new.pass old.player new.player mid now new.end d.played).1 in
-    let pass : old.pass ≡ new_pass t old.mux 1 = ap (λ (j : PlayerJob). j.pass) is in
-    record {
-      turns = ap (λ (z : View). z.turns) did.gained ∙ ap (λ (z : View). z.turns) pass;
-      low = ap (λ (z : View). z.own.low) did.gained ∙ ap (λ (z : View). z.own.low) pass;
-      span = ap (λ (z : View). z.own.span) did.gained ∙ ap (λ (z : View). z.own.span) pass;
-      alone = ap (λ (z : View). z.finished) did.gained ∙ ap (λ (z : View). z.finished) pass;
-    }
+pub lone_did : (t : TableId) (mux : Mux) (who : ℕ) (commands : List Command) (w : View) → Did commands (new_pass t mux who) w → Lone t who w
+lone_did t mux who commands w d = record {
+  turns_are = ap (λ (z : View). z.turns) d.gained;
+  low = ap (λ (z : View). z.own.low) d.gained;
+  span = ap (λ (z : View). z.own.span) d.gained;
+  alone = ap (λ (z : View). z.finished) d.gained;
+}
 
-module _ {S : Type 0} (left : S → Option (List ℕ)) (faults : S → ℕ) (is_same : S → S → Type 0) (t : TableId) (mux : Mux) where
-  pub ran_from : (readers : List (Reading S)) (xs ys : List (FeedJob S)) → xs ≡ jobs_back t mux 1 readers → length ys ≡ length xs
-      → ((i : ℕ) (d : FeedJob S) → i < length xs → FeedDid left faults is_same (slice_index_or xs i d) (slice_index_or ys i d)) → FeedsRan left faults is_same t mux 1 readers ys
-  ran_from readers xs ys is len each = ran left faults is_same t mux 1 readers ys (subst (λ (l : List (FeedJob S)). Zip (FeedDid left faults is_same) l ys) is (zip_of (FeedDid left faults is_same) xs ys len each))
+-- whose steps are no swaps has made none
+pub no_swaps : {T : Type 0} (step : T → Step) → ((value : T) → is_swap (step value) ≡ false) → (who : ℕ) (values : List T) (added : List Entry) → map command_of added ≡ commands_by who step values → NoSwaps added
+no_swaps step none who [] [] e = tt
+no_swaps step none who [] (x ∷ added) e = absurd (cc e)
+no_swaps step none who (v ∷ values) [] e = absurd (cc e)
+no_swaps step none who (v ∷ values) (x ∷ added) e =
+    let head : command_of x ≡ (who, step v) = cc e in
+    (ap (λ (c : Command). is_swap c.1) head ∙ none v, no_swaps step none who values added (cc e))
 
-  module _ (readers : List (Reading S)) (jobs : List (FeedJob S)) (r : FeedsRan left faults is_same t mux 1 readers jobs) (control player : View) (c : Lone t 0 control) (p : Lone t 1 player) where
-    some : (k : ℕ) → k ≢ 0 → 0 < k
-    some k ne = dite (dec_le 1 k) (λ h. h) (λ h. absurd (ne (let less = lt_of_not-le h in omega (arith, less))))
+edit_none : (feed : ℕ) (e : Edit) → is_swap (edit_step feed e) ≡ false
+edit_none feed e = refl
 
-    above : (k : ℕ) → k ≢ 0 → k ≢ 1 → 1 + 1 ≤ k
-    above k a b = dite (dec_le 2 k) (λ h. h) (λ h. absurd (dite (ℕ_discrete k 0) a (λ ne. b (let less = lt_of_not-le h in omega (arith, less, some k ne)))))
+control_none : (c : Control) → is_swap (control_step c) ≡ false
+control_none (Tick at) = refl
+control_none Publish = refl
 
-    pub have : (callers : ℕ) → callers ≡ length readers + 2 → (k : ℕ) → k < callers → HasAny (control.own ∷ player.own ∷ callers_back jobs) k
+-- what a job that reads has made of a pass that had made nothing
+each_no_swaps : {T : Type 0} (step : T → Step) → ((value : T) → is_swap (step value) ≡ false) → (v w : View) (values : List T) → v.own.made ≡ [] → DidEach step v w values → NoSwaps w.own.made
+each_no_swaps step none v w values empty d =
+    subst NoSwaps (sym (ap (λ (z : View). z.own.made) d.gained ∙ ap (λ (l : List Entry). l ++ d.added) empty))
+    (no_swaps step none v.own.low values d.added d.commands_are)
+
+pub control_plain : {S : Type 0} (st : Stream S) (t : TableId) (mux : Mux) (reader : Reading S) (job : ControlJob S) → ControlDid st (new_control t mux reader) job → NoSwaps job.pass.own.made
+control_plain st t mux reader job d = each_no_swaps control_step control_none (new_pass t mux 0) job.pass d.did.0 refl d.did.1
+
+pub feeds_back : {S : Type 0} (st : Stream S) (t : TableId) (mux : Mux) (n : ℕ) (readers : List (Reading S)) (jobs : List (FeedJob S)) → FeedsDid st (new_feeds t mux n readers) jobs → AreBack t n jobs
+feeds_back st t mux n [] [] did = tt
+feeds_back st t mux n [] (job ∷ jobs) did = absurd did
+feeds_back st t mux n (r ∷ rs) [] did = absurd did
+feeds_back st t mux n (r ∷ rs) (job ∷ jobs) (did, more) = (
+  record {
+    feed = did.feed;
+    lone = lone_did t mux (n + 1) (commands_by (n + 1) (edit_step n) did.read.did.0) job.pass did.read.did.1;
+    plain = each_no_swaps (edit_step n) (edit_none n) (new_pass t mux (n + 1)) job.pass did.read.did.0 refl did.read.did.1;
+  },
+  feeds_back st t mux (n + 1) rs jobs more,
+)
+
+above : (k n : ℕ) → n ≤ k → k ≢ n → n + 1 ≤ k
+above k n le ne = dite (dec_le (n + 1) k) (λ h. h) (λ h. absurd (ne (let less = lt_of_not-le h in omega (arith, le, less))))
+
+module _ {S : Type 0} (t : TableId) where
+  -- what holds of each caller that the feeds bring
+  each_caller : (P : Caller Entry → Type 0) → ((c : Caller Entry) (n : ℕ) → 1 ≤ n → c.low ≡ n + 1 → NoSwaps c.made → P c) → (n : ℕ) (jobs : List (FeedJob S)) → 1 ≤ n → AreBack t n jobs → AllByRecursion P (callers_of jobs)
+  each_caller P f n [] some back = tt
+  each_caller P f n (job ∷ jobs) some (one, more) = (f job.pass.own n some one.lone.low one.plain, each_caller P f (n + 1) jobs (omega (arith, some)) more)
+
+  -- their numbers follow each other
+  feeds_have : (n : ℕ) (jobs : List (FeedJob S)) → AreBack t n jobs → (k : ℕ) → n + 1 ≤ k → k < n + 1 + length jobs → HasAny (callers_of jobs) k
+  feeds_have n [] back k le less = absurd (omega (arith, le, less))
+  feeds_have n (job ∷ jobs) (one, more) k le less = dite (ℕ_discrete k (n + 1))
+      (λ e. inl (let low = one.lone.low in omega (arith, e, low), (let low = one.lone.low in let span = one.lone.span in omega (arith, e, low, span))))
+      (λ ne. inr (feeds_have (n + 1) jobs more k (above k (n + 1) le ne) (omega (arith, less))))
+
+  module _ (jobs : List (FeedJob S)) (back : AreBack t 1 jobs) (control player : View) (c : Lone t 0 control) (p : Lone t 1 player) where
+    pub have : (callers : ℕ) → callers ≡ length jobs + 2 → (k : ℕ) → k < callers → HasAny (control.own ∷ player.own ∷ callers_of jobs) k
     have callers e k less = dite (ℕ_discrete k 0)
-        (λ z. inl (omega (arith, z, c.low), omega (arith, z, c.low, c.span)))
+        (λ z. inl (let low = c.low in omega (arith, z, low), (let low = c.low in let span = c.span in omega (arith, z, low, span))))
         (λ a. dite (ℕ_discrete k 1)
-        (λ z. inr (inl (omega (arith, z, p.low), omega (arith, z, p.low, p.span))))
-        (λ b. inr (inr (feeds_have left faults is_same t mux 1 readers jobs r k (above k a b) (omega (arith, less, e))))))
+        (λ z. inr (inl (let low = p.low in omega (arith, z, low), (let low = p.low in let span = p.span in omega (arith, z, low, span)))))
+        (λ b. inr (inr (feeds_have 1 jobs back k (above k 1 (above k 0 (omega arith) a) b) (omega (arith, less, e))))))
 
-    pub swaps_are : NoSwaps control.own.made → AllByRecursion (SwapsNot 1) (control.own ∷ player.own ∷ callers_back jobs)
-    swaps_are none = ((λ ne. none), ((λ ne. absurd (ne p.low)), feeds_swaps left faults is_same t mux 1 readers jobs (omega arith) r))
+    pub swaps_are : NoSwaps control.own.made → AllByRecursion (SwapsNot 1) (control.own ∷ player.own ∷ callers_of jobs)
+    swaps_are none = ((λ ne. none), ((λ ne. absurd (ne p.low)), each_caller (SwapsNot 1) (λ x k le low plain ne. plain) 1 jobs (omega arith) back))
 
-    pub apart_are : AllByRecursion (λ (x : Caller Entry). x.low ≢ control.own.low) (player.own ∷ callers_back jobs)
+    pub apart_are : AllByRecursion (λ (x : Caller Entry). x.low ≢ control.own.low) (player.own ∷ callers_of jobs)
     apart_are =
-        subst (λ (n : ℕ). AllByRecursion (λ (x : Caller Entry). x.low ≢ n) (player.own ∷ callers_back jobs)) (sym c.low)
-        ((λ e. absurd (omega (arith, e, p.low))), feeds_apart left faults is_same t mux 1 readers jobs (omega arith) r)
+        subst (λ (n : ℕ). AllByRecursion (λ (x : Caller Entry). x.low ≢ n) (player.own ∷ callers_of jobs)) (sym c.low)
+        ((λ e. absurd (let low = p.low in omega (arith, e, low))), each_caller (λ x. x.low ≢ 0) (λ x k le low plain e. absurd (omega (arith, low, e))) 1 jobs (omega arith) back)
 
--- what was cut off, told by the turns of the hall
-pub cut_done : {S : Type 0} (a t : TableId) (mux : Mux) (readers : List (Reading S)) (count : ℕ) (first now : View) (jobs : List (FeedJob S)) → a ≡ t → count ≡ length readers → first ≡ first_pass t (count + 2) mux
-    → ((m : Mux) → first ≡ first_pass a (length readers + 2) m → (now ≡ first_pass a 2 m) × (jobs ≡ jobs_back a m 1 readers))
-    → (now ≡ first_pass t 2 mux) × (jobs ≡ jobs_back t mux 1 readers)
-cut_done a t mux readers count first now jobs e n is f =
-    let r = f mux (is ∙ ap (λ (k : ℕ). first_pass t (k + 2) mux) n ∙ ap (λ (x : TableId). first_pass x (length readers + 2) mux) (sym e)) in
-    (r.0 ∙ ap (λ (x : TableId). first_pass x 2 mux) e, r.1 ∙ ap (λ (x : TableId). jobs_back x mux 1 readers) e)
+-- ---- causes
 
-pub kept_new : (t : TableId) (mux copy : Mux) (now next : View) → now ≡ first_pass t 2 mux → next ≡ lower_part now 1 → copy ≡ mux → next ≡ new_pass t copy 0
-kept_new t mux copy now next is kept e = kept ∙ ap (λ (z : View). lower_part z 1) is ∙ ap (λ (m : Mux). new_pass t m 0) (sym e)
+-- what holds of a player that was not stopped
+pub going_ready : {X Y : Type 0} (P : Type 0) (end : Result (Unit {0}) SendStop) (x : Option X) (y : Option Y) → halts end x y ≡ false → OnOk end P → P
+going_ready P (Ok u) x y going p = p
+going_ready P (Err stop) x y going p = absurd (cc going)
 
-pub cut_new : (t : TableId) (mux copy : Mux) (now own : View) → now ≡ first_pass t 2 mux → own ≡ upper_part now 1 → copy ≡ mux → own ≡ new_pass t copy 1
-cut_new t mux copy now own is up e = up ∙ ap (λ (z : View). upper_part z 1) is ∙ ap (λ (m : Mux). new_pass t m 1) (sym e)
+pub and_ok : (X Y Z : Type 0) (end last : Result (Unit {0}) SendStop) → (X → Y → Z) → OnOk end X → OnOk last Y → OnOk (and_sent end last) Z
+and_ok X Y Z (Ok u) (Ok v) f x y = f x y
+and_ok X Y Z (Ok u) (Err e) f x y = tt
+and_ok X Y Z (Err e) last f x y = tt
 
 -- a failure of the air has its cause, whether the player met it or the control
 rose_on : (a b c : ℕ) → a ≤ b → b ≤ c → Rose a b → Rose a c
@@ -178,6 +207,16 @@ cause_on a b c (Ok u) le more h = tt
 cause_on a b c (Err Air) le more h = rose_on a b c le more h
 cause_on a b c (Err Memory) le more h = tt
 
-pub cause_all : (a b c : ℕ) (end sent : Result (Unit {0}) SendStop) → a ≤ b → b ≤ c → HasAirCause a b end → OnOk end (HasAirCause b c sent) → ((stop : SendStop) → end ≡ Err stop → sent ≡ Err stop) → HasAirCause a c sent
-cause_all a b c (Ok u) sent le more h k failed = cause_from a b c sent le k
-cause_all a b c (Err stop) sent le more h k failed = subst (HasAirCause a c) (sym (failed stop refl)) (cause_on a b c (Err stop) le more h)
+-- whether the player met it or the control
+pub cause_all : (a b c : ℕ) (end last : Result (Unit {0}) SendStop) → a ≤ b → b ≤ c → HasAirCause a b end → HasAirCause b c last → HasAirCause a c (and_sent end last)
+cause_all a b c (Ok u) last le more h k = cause_from a b c last le k
+cause_all a b c (Err stop) last le more h k = cause_on a b c (Err stop) le more h
+
+-- what was written, and then more
+pub wrote_then : {A : Type 0} (faults : A → ℕ) (is_same : A → A → Type 0) (chain : (a b c : A) → is_same a b → is_same b c → is_same a c) (a b c : A) (r last : Result (Unit {0}) SendStop)
+    → Wrote faults is_same a b r → Wrote faults is_same b c last → Wrote faults is_same a c last
+wrote_then faults is_same chain a b c r last first then = record {
+  cause = cause_from (faults a) (faults b) (faults c) last first.later then.cause;
+  later = (let le = first.later in let more = then.later in omega (arith, le, more));
+  same = chain a b c first.same then.same;
+}

@@ -1,84 +1,107 @@
 -- What the jobs of a run leave, each of what it was given.
-use Rattle.std.specs.Prelude.{◌≡◌, ℕ, ◌^◌, ◌<◌, ◌≤◌, true, List, [], ◌∷◌, Option, Some, None, OnOk, length, slice_index_or}
-use Rattle.std.specs.List.{All}
-use Rattle.std.specs.Io.KnownBytes.{IsAtEnd}
-use Rattle.si_causes.specs.Reading.{Reading, text_left}
-use Rattle.mux_model.specs.Sound.{IsSound}
+use Rattle.std.specs.Prelude.{◌≡◌, ◌<◌, ◌+◌, ◌^◌, ℕ, true, Option, None, Some, Ok, List, [], ◌∷◌, map}
+use Rattle.std.specs.List.{All, AllZip}
+use Rattle.si_causes.specs.Reading.{Reading}
+use Rattle.mux_model.specs.declared.mux.Mux.{Mux}
 use Rattle.input_lines.specs.declared.stop.EditStop.{EditStop}
-use Rattle.input_lines.specs.Ahead.{Ahead, Stop, ahead}
 use Rattle.script_lines.specs.Edits.{edits_ahead}
-use Rattle.journal_model.specs.declared.step.Step.{Step}
+use Rattle.journal_model.specs.declared.step.Entry.{Entry}
+use Rattle.turn_lock.specs.declared.known.Caller.{Caller}
 use Rattle.turn_lock.specs.Knowledge.{TableId}
+use Rattle.desk_hall.specs.Turn.{View}
+use Rattle.desk_hall.specs.Reads.{ReaderDid, Stream, controls_ahead, control_step, edit_step, stream}
 use Rattle.headend_jobs.specs.declared.jobs.FeedJob.{FeedJob}
 use Rattle.headend_jobs.specs.declared.jobs.ControlJob.{ControlJob}
 use Rattle.headend_jobs.specs.declared.jobs.PlayerJob.{PlayerJob}
-use Rattle.air_model.specs.Air.{Aired}
-use Rattle.cycle_player.specs.Sending.{AtEnd}
-use Rattle.air_sending.specs.OnAir.{HasAirCause}
-use Rattle.headend_jobs.specs.Playing.{SwapsPlayed}
-use Rattle.headend_jobs.specs.declared.views.ViewJob.{ViewJob}
-use Rattle.guide_board.specs.Posts.{Sight}
-use Rattle.headend_jobs.specs.Posting.{HasPosted, HaveServicesOf, KeepsBoard}
+use Rattle.headend_jobs.specs.declared.jobs.Others.{Others}
+use Rattle.headend_jobs.specs.declared.sender.Sender.{Sender}
+use Rattle.headend_jobs.specs.declared.sender.Swaps.{Swaps}
+use Rattle.headend_jobs.specs.Sends.{CanPlay, Played}
 use Rattle.headend_jobs.specs.Views.{ViewReady, ViewsDid}
-use Rattle.desk_hall.specs.Turn.{View}
-use Rattle.desk_hall.specs.Reads.{DidEach, ToldDid, TakenDid, HasReadCause, edit_step, control_step, controls_ahead}
 
--- A job read from old to new, where `all` is what is ahead, and did the step of each value in a turn of its own, from v to w.
-pub record ReaderDid {T S : Type 0} (step : T → Step) (all : Ahead → List T × Stop) (left : S → Option (List ℕ)) (faults : S → ℕ) (is_same : S → S → Type 0)
-    (v w : View) (old new : Reading S) (stop : Option EditStop) : Type 0 where
-  pub did : (values : List T) × DidEach step v w values
-  pub told : old.stop ≡ None → (text : List ℕ) → text_left left old ≡ Some text → ToldDid (DidEach step v w) (all (ahead old text)) stop
-  pub taken : old.stop ≡ None → TakenDid (DidEach step v w) left all old new stop
-  pub end : stop ≡ None → IsAtEnd (left new.source)
-  pub cause : old.stop ≡ None → HasReadCause (faults old.source) (faults new.source) stop
-  pub later : faults old.source ≤ faults new.source
-  pub same : is_same old.source new.source
+-- ---- the passes that a run gives out
 
-module _ {S : Type 0} (left : S → Option (List ℕ)) (faults : S → ℕ) (is_same : S → S → Type 0) where
-  pub record FeedDid (old new : FeedJob S) : Type 0 where
-    pub feed : new.feed ≡ old.feed
-    pub read : ReaderDid (edit_step old.feed) edits_ahead left faults is_same old.pass new.pass old.lines new.lines new.stop
+-- what a pass of one number knows before its first turn
+abbrev pub new_pass : TableId → Mux → ℕ → View
+new_pass turns mux who = record { turns = turns; seen = []; own = record { low = who; span = 1; made = [] }; finished = []; on = Some mux }
 
-  abbrev pub ControlDid : ControlJob S → ControlJob S → Type 0
-  ControlDid old new = ReaderDid control_step controls_ahead left faults is_same old.pass new.pass old.lines new.lines new.stop
+-- a feed before it begins: feed f is caller f + 1
+abbrev pub new_feed : {S : Type 0} → TableId → Mux → ℕ → Reading S → FeedJob S
+new_feed turns mux f reader = record { pass = new_pass turns mux (f + 1); feed = f; lines = reader; stop = None }
 
--- the player has a pass of these turns, and may begin; the board has the services of its multiplex
-pub record PlayerReady (turns : TableId) (job : PlayerJob) (board : Sight) : Type 0 where
-  pub turns_are : job.pass.turns ≡ turns
-  pub sound : IsSound job.mux
-  pub stands : job.pass.on ≡ Some job.mux
-  pub ready : (xs : List Aired) × AtEnd xs job.player
-  pub few : job.cycles < 2 ^ 32
-  pub served : HaveServicesOf job.mux board.posts
+-- the feeds of these readers, of which the first has number n
+abbrev pub new_feeds : {S : Type 0} → TableId → Mux → ℕ → List (Reading S) → List (FeedJob S)
+new_feeds turns mux n [] = []
+new_feeds turns mux n (reader ∷ readers) = new_feed turns mux n reader ∷ new_feeds turns mux (n + 1) readers
 
--- it made its swaps, and what it sent is what the air took from mid to now
-pub record PlayerDid (old new : PlayerJob) (mid now : Option (List ℕ)) (faults_before faults_now : ℕ) : Type 0 where
-  pub mux : new.mux ≡ old.mux
-  pub played : SwapsPlayed true old.mux old.cycles old.pass new.pass old.player new.player mid now new.end
-  pub ready : OnOk new.end ((xs : List Aired) × AtEnd xs new.player)
-  pub cause : HasAirCause faults_before faults_now new.end
-  pub later : faults_before ≤ faults_now
+-- the control and the player before they begin
+abbrev pub new_control : {S : Type 0} → TableId → Mux → Reading S → ControlJob S
+new_control turns mux reader = record { pass = new_pass turns mux 0; lines = reader; stop = None }
+
+abbrev pub new_player : TableId → Mux → ℕ → PlayerJob
+new_player turns mux cycles = record { pass = new_pass turns mux 1; cycles = cycles; end = Ok tt }
+
+-- ---- what feeds bring, in their order
+
+abbrev pub lines_of : {S : Type 0} → List (FeedJob S) → List (Reading S)
+lines_of {S} jobs = map (λ (job : FeedJob S). job.lines) jobs
+
+abbrev pub stops_of : {S : Type 0} → List (FeedJob S) → List (Option EditStop)
+stops_of {S} jobs = map (λ (job : FeedJob S). job.stop) jobs
+
+abbrev pub callers_of : {S : Type 0} → List (FeedJob S) → List (Caller Entry)
+callers_of {S} jobs = map (λ (job : FeedJob S). job.pass.own) jobs
+
+-- ---- what each did
+
+-- what the sources of the feeds show, and that of the control
+pub record Streams (F S : Type 0) : Type 1 where
+  pub feeds : Stream F
+  pub control : Stream S
+
+abbrev pub streams : {F S : Type 0} → (F → Option (List ℕ)) → (F → ℕ) → (F → F → Type 0)
+    → (S → Option (List ℕ)) → (S → ℕ) → (S → S → Type 0) → Streams F S
+streams left faults same leftS faultsS sameS =
+    record { feeds = stream left faults same; control = stream leftS faultsS sameS }
+
+pub record FeedDid {S : Type 0} (s : Stream S) (old new : FeedJob S) : Type 0 where
+  pub feed : new.feed ≡ old.feed
+  pub read : ReaderDid (edit_step old.feed) edits_ahead s old.pass new.pass old.lines new.lines new.stop
+
+abbrev pub FeedsDid : {S : Type 0} → Stream S → List (FeedJob S) → List (FeedJob S) → Type 0
+FeedsDid s old new = AllZip (FeedDid s) old new
+
+abbrev pub ControlDid : {S : Type 0} → Stream S → ControlJob S → ControlJob S → Type 0
+ControlDid s old new =
+    ReaderDid control_step controls_ahead s old.pass new.pass old.lines new.lines new.stop
 
 -- each feed job's pass is of these turns
 abbrev pub AllOf : {S : Type 0} → TableId → List (FeedJob S) → Type 0
-AllOf turns [] = Unit {0}
-AllOf turns (job ∷ jobs) = (job.pass.turns ≡ turns) × AllOf turns jobs
+AllOf {S} turns jobs = All (λ (job : FeedJob S). job.pass.turns ≡ turns) jobs
 
 -- The feeds, the control and the viewers may begin.
-pub record OthersReady {F S : Type 0} (turns : TableId) (feeds : List (FeedJob F)) (control : ControlJob S) (views : List ViewJob) : Type 0 where
-  pub feeds_are : AllOf turns feeds
-  pub control_is : control.pass.turns ≡ turns
-  pub views_are : All ViewReady views
+pub record OthersReady {F S : Type 0} (turns : TableId) (others : Others F S) : Type 0 where
+  pub feeds : AllOf turns others.feeds.items
+  pub control : others.control.pass.turns ≡ turns
+  pub views : All ViewReady others.views.items
 
 -- The feeds, the control and the viewers each did what was ahead of them.
-pub record OthersDid {F S : Type 0} (left : F → Option (List ℕ)) (faults : F → ℕ) (is_same : F → F → Type 0) (leftS : S → Option (List ℕ)) (faultsS : S → ℕ) (is_sameS : S → S → Type 0)
-    (feeds_old feeds_new : List (FeedJob F)) (control_old control_new : ControlJob S) (views_old views_new : List ViewJob) : Type 0 where
-  pub len : length feeds_new ≡ length feeds_old
-  pub each : (i : ℕ) (d : FeedJob F) → i < length feeds_old → FeedDid left faults is_same (slice_index_or feeds_old i d) (slice_index_or feeds_new i d)
-  pub control : ControlDid leftS faultsS is_sameS control_old control_new
-  pub views : ViewsDid views_old views_new
+pub record OthersDid {F S : Type 0} (st : Streams F S) (old new : Others F S) : Type 0 where
+  pub feeds : FeedsDid st.feeds old.feeds.items new.feeds.items
+  pub control : ControlDid st.control old.control new.control
+  pub views : ViewsDid old.views.items new.views.items
 
--- The player posted what it put on air, where it made all its swaps.
-pub record PlayerPosted (old new : PlayerJob) (board_old board_new : Sight) : Type 0 where
-  pub posted : OnOk new.end (HasPosted old.mux old.pass new.pass board_old board_new)
-  pub board : KeepsBoard board_old board_new
+-- so many swaps, each after its tick
+abbrev pub swaps_with_ticks : ℕ → Swaps
+swaps_with_ticks n = record { count = n; ticking = true }
+
+-- The player may begin.
+pub record PlayerReady {A : Type 0} (turns : TableId) (job : PlayerJob) (s : Sender A) : Type 0 where
+  pub can_play : CanPlay turns job.pass s
+  pub few : job.cycles < 2 ^ 32
+
+-- It made its swaps.
+pub record PlayerDid {A : Type 0} (written : A → Option (List ℕ)) (faults : A → ℕ)
+    (is_same : A → A → Type 0) (old new : PlayerJob) (s t : Sender A) : Type 0 where
+  pub cycles : new.cycles ≡ old.cycles
+  pub played : Played written faults is_same (swaps_with_ticks old.cycles) old.pass new.pass s t new.end

@@ -1,9 +1,12 @@
 pub mod Ticking
 pub mod Playing
+pub mod Posting
+pub mod Sends
 pub mod Jobs
 pub mod Whole
-pub mod Callers
+pub mod Stops
 pub mod Live
-pub mod Back
-pub mod Posting
+pub mod Callers
 pub mod Views
+pub mod Crews
+pub mod Ran

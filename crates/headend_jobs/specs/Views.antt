@@ -29,16 +29,21 @@ pub record ViewReady (job : ViewJob) : Type 0 where
   pub room : vec_len job.answers + job.times + 1 ≤ vec_capacity job.answers
   pub said : AreSaid job.viewer.posts job.service job.answers.items
 
--- It asked as often as it was to.
-pub record ViewDid (old new : ViewJob) : Type 0 where
+-- It asked so often: its viewer has seen more of the same board, and each answer is what a post of
+-- these says.
+pub record Asked (n : ℕ) (old new : ViewJob) : Type 0 where
   pub service : new.service ≡ old.service
   pub times : new.times ≡ old.times
   pub board : new.viewer.board ≡ old.viewer.board
   pub seen : IsPrefix old.viewer.posts new.viewer.posts
   pub services : services_in new.viewer.posts ≡ services_in old.viewer.posts
   pub said : AreSaid new.viewer.posts old.service new.answers.items
-  pub count : vec_len new.answers ≡ vec_len old.answers + old.times
+  pub count : vec_len new.answers ≡ vec_len old.answers + n
   pub capacity : vec_capacity new.answers ≡ vec_capacity old.answers
+
+-- It asked as often as it was to.
+abbrev pub ViewDid : ViewJob → ViewJob → Type 0
+ViewDid old new = Asked old.times old new
 
 -- Each of these jobs did what it was to.
 pub record ViewsDid (old new : List ViewJob) : Type 0 where

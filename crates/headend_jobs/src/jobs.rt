@@ -1,17 +1,15 @@
 // The jobs of a run, side by side.
-ghost use Rattle.std.specs.Prelude.{◌≡◌, ◌<◌, ℕ, List, length, slice_index_or};
+ghost use Rattle.std.specs.Prelude.{◌≡◌, ◌<◌, ◌^◌};
 ghost use Rattle.std.specs.Thread.{IsSync, IsSend};
 ghost use Rattle.std.specs.List.{All};
-ghost use Rattle.headend_jobs.specs.Jobs.{AllOf, ControlDid, FeedDid, OthersDid, OthersReady, PlayerDid, PlayerPosted, PlayerReady};
+ghost use Rattle.desk_hall.specs.Reads.{stream};
+ghost use Rattle.headend_jobs.specs.Jobs.{AllOf, ControlDid, FeedDid, FeedsDid, OthersDid, OthersReady, PlayerDid, PlayerReady, streams};
 ghost use Rattle.headend_jobs.specs.Views.{ViewReady, ViewsDid};
 
-use crate::player::play;
+use crate::sender::{Sender, Swaps};
 use crate::views::{ViewJob, run_views};
 use air_sending::SendStop;
-use cycle_player::CyclePlayer;
 use desk_hall::{Hall, HallPass};
-use guide_board::BoardWriter;
-use mux_model::Mux;
 use script_lines::EditStop;
 use si_causes::{Gate, LineReader, Sink, Source};
 use std::alloc::Global;
@@ -35,14 +33,20 @@ pub struct ControlJob<S: Source> {
     pub stop: Option<EditStop>,
 }
 
-/// The player: its pass, the player itself, and how it ended.
+/// The player: its pass, how many swaps it makes, and how it ended.
 #[derive(Drop)]
 pub struct PlayerJob {
     pub pass: HallPass,
-    pub mux: Mux,
     pub cycles: u64,
-    pub player: CyclePlayer,
     pub end: Result<(), SendStop>,
+}
+
+/// The jobs that send nothing: the control, the feeds and the viewers.
+#[derive(Drop)]
+pub struct Others<F: Source, S: Source> {
+    pub control: ControlJob<S>,
+    pub feeds: Vec<FeedJob<F>>,
+    pub views: Vec<ViewJob>,
 }
 
 fn run_feed<W: Wait, F: Source, G: Gate>(
@@ -53,7 +57,7 @@ fn run_feed<W: Wait, F: Source, G: Gate>(
     gate: &G,
 )
     requires { job.old.pass.turns ≡ hall.now.turns }
-    ensures { FeedDid F.left F.faults F.same job.old job.new }
+    ensures { FeedDid (stream F.left F.faults F.same) job.old job.new }
 {
     job.stop = hall.feed(rt, alloc, &mut job.pass, job.feed, &mut job.lines, gate);
 }
@@ -67,12 +71,11 @@ fn run_feeds<W: Threads + Wait + Sync, F: Source + Send, G: Gate>(
     gate: &G,
 )
     requires { AllOf hall.now.turns jobs.old }
-    ensures len { length jobs.new ≡ length jobs.old }
-    ensures each { (i : ℕ) (d : _) → i < length jobs.old → FeedDid F.left F.faults F.same (slice_index_or jobs.old i d) (slice_index_or jobs.new i d) }
+    ensures { FeedsDid (stream F.left F.faults F.same) jobs.old jobs.new }
 {
     let run = |_i: usize, job: &mut FeedJob<F>|
         requires { job.now.pass.turns ≡ hall.now.turns }
-        ensures { FeedDid F.left F.faults F.same job.entry.now job.exit.now }
+        ensures { FeedDid (stream F.left F.faults F.same) job.entry.now job.exit.now }
     { run_feed(rt, alloc, hall, job, gate) };
     let count = jobs.len();
     if count > 0 {
@@ -82,7 +85,7 @@ fn run_feeds<W: Threads + Wait + Sync, F: Source + Send, G: Gate>(
 
 fn run_control<W: Wait, S: Source>(rt: &W, alloc: Global, hall: &Hall, job: &mut ControlJob<S>)
     requires { job.old.pass.turns ≡ hall.now.turns }
-    ensures { ControlDid S.left S.faults S.same job.old job.new }
+    ensures { ControlDid (stream S.left S.faults S.same) job.old job.new }
 {
     job.stop = hall.control(rt, alloc, &mut job.pass, &mut job.lines);
 }
@@ -92,28 +95,17 @@ fn run_player<W: Wait, A: Sink, G: Gate>(
     alloc: Global,
     hall: &Hall,
     job: &mut PlayerJob,
-    board: &mut BoardWriter,
-    air: &mut A,
+    sender: &mut Sender<A>,
     gate: &G,
 )
-    requires { PlayerReady hall.now.turns job.old board.old }
-    ensures did { PlayerDid job.old job.new (A.written air.old) (A.written air.new) (A.faults air.old) (A.faults air.new) }
-    ensures posted { PlayerPosted job.old job.new board.old board.new }
-    ensures same { A.same air.old air.new }
+    requires { PlayerReady hall.now.turns job.old sender.old }
+    ensures { PlayerDid A.written A.faults A.same job.old job.new sender.old sender.new }
 {
-    job.end = play(
-        rt,
-        alloc,
-        hall,
-        &job.mux,
-        job.cycles,
-        &mut job.pass,
-        &mut job.player,
-        board,
-        air,
-        true,
-        gate,
-    );
+    let swaps = Swaps {
+        count: job.cycles,
+        ticking: true,
+    };
+    job.end = sender.play(rt, alloc, hall, &mut job.pass, swaps, gate);
 }
 
 // The control and the feeds side by side.
@@ -127,26 +119,24 @@ fn run_readers<W: Threads + Wait + Sync, F: Source + Send, S: Source + Send, G: 
 )
     requires feeds { AllOf hall.now.turns feeds.old }
     requires control { control.old.pass.turns ≡ hall.now.turns }
-    ensures len { length feeds.new ≡ length feeds.old }
-    ensures each { (i : ℕ) (d : _) → i < length feeds.old → FeedDid F.left F.faults F.same (slice_index_or feeds.old i d) (slice_index_or feeds.new i d) }
-    ensures control { ControlDid S.left S.faults S.same control.old control.new }
+    ensures feeds { FeedsDid (stream F.left F.faults F.same) feeds.old feeds.new }
+    ensures control { ControlDid (stream S.left S.faults S.same) control.old control.new }
 {
     join_mut(
         rt,
         &mut ||
             requires { control.now.pass.turns ≡ hall.now.turns }
-            ensures { ControlDid S.left S.faults S.same control.entry.now control.exit.now }
+            ensures { ControlDid (stream S.left S.faults S.same) control.entry.now control.exit.now }
         { run_control(rt, alloc, hall, control) },
         &mut ||
             requires { IsSend F.row × IsSync W.row × IsSync G.row × AllOf hall.now.turns feeds.now }
-            ensures len { length feeds.exit.now ≡ length feeds.entry.now }
-            ensures each { (i : ℕ) (d : _) → i < length feeds.entry.now → FeedDid F.left F.faults F.same (slice_index_or feeds.entry.now i d) (slice_index_or feeds.exit.now i d) }
+            ensures { FeedsDid (stream F.left F.faults F.same) feeds.entry.now feeds.exit.now }
         { run_feeds(rt, alloc, hall, feeds, gate) },
     );
 }
 
 // The control and the feeds, and the viewers.
-fn run_others<W: Threads + Wait + Sync, F: Source + Send, S: Source + Send, G: Gate>(
+fn run_each<W: Threads + Wait + Sync, F: Source + Send, S: Source + Send, G: Gate>(
     rt: &W,
     alloc: Global,
     hall: &Hall,
@@ -155,16 +145,20 @@ fn run_others<W: Threads + Wait + Sync, F: Source + Send, S: Source + Send, G: G
     views: &mut [ViewJob],
     gate: &G,
 )
-    requires { OthersReady hall.now.turns feeds.old control.old views.old }
-    ensures { OthersDid F.left F.faults F.same S.left S.faults S.same feeds.old feeds.new control.old control.new views.old views.new }
+    requires feeds { AllOf hall.now.turns feeds.old }
+    requires control { control.old.pass.turns ≡ hall.now.turns }
+    requires views { All ViewReady views.old }
+    ensures feeds { FeedsDid (stream F.left F.faults F.same) feeds.old feeds.new }
+    ensures control { ControlDid (stream S.left S.faults S.same) control.old control.new }
+    ensures views { ViewsDid views.old views.new }
 {
     join_mut(
         rt,
         &mut ||
-            requires { IsSend F.row × IsSend S.row × IsSync W.row × IsSync G.row × AllOf hall.now.turns feeds.now × (control.now.pass.turns ≡ hall.now.turns) }
-            ensures len { length feeds.exit.now ≡ length feeds.entry.now }
-            ensures each { (i : ℕ) (d : _) → i < length feeds.entry.now → FeedDid F.left F.faults F.same (slice_index_or feeds.entry.now i d) (slice_index_or feeds.exit.now i d) }
-            ensures control { ControlDid S.left S.faults S.same control.entry.now control.exit.now }
+            requires { IsSend F.row × IsSend S.row × IsSync W.row × IsSync G.row
+                × AllOf hall.now.turns feeds.now × (control.now.pass.turns ≡ hall.now.turns) }
+            ensures feeds { FeedsDid (stream F.left F.faults F.same) feeds.entry.now feeds.exit.now }
+            ensures control { ControlDid (stream S.left S.faults S.same) control.entry.now control.exit.now }
         { run_readers(rt, alloc, hall, control, feeds, gate) },
         &mut ||
             requires { All ViewReady views.now }
@@ -173,7 +167,45 @@ fn run_others<W: Threads + Wait + Sync, F: Source + Send, S: Source + Send, G: G
     );
 }
 
-/// The feeds, the control, the player and the viewers side by side.
+// The player, and each of the others, side by side.
+fn run_both<W: Threads + Wait + Sync, F: Source + Send, S: Source + Send, A: Sink + Send, G: Gate>(
+    rt: &W,
+    alloc: Global,
+    hall: &Hall,
+    player: &mut PlayerJob,
+    sender: &mut Sender<A>,
+    control: &mut ControlJob<S>,
+    feeds: &mut [FeedJob<F>],
+    views: &mut [ViewJob],
+    gate: &G,
+)
+    requires player { PlayerReady hall.now.turns player.old sender.old }
+    requires feeds { AllOf hall.now.turns feeds.old }
+    requires control { control.old.pass.turns ≡ hall.now.turns }
+    requires views { All ViewReady views.old }
+    ensures player { PlayerDid A.written A.faults A.same player.old player.new sender.old sender.new }
+    ensures feeds { FeedsDid (stream F.left F.faults F.same) feeds.old feeds.new }
+    ensures control { ControlDid (stream S.left S.faults S.same) control.old control.new }
+    ensures views { ViewsDid views.old views.new }
+{
+    join_mut(
+        rt,
+        &mut ||
+            requires { IsSend F.row × IsSend S.row × IsSync W.row × IsSync G.row
+                × AllOf hall.now.turns feeds.now × (control.now.pass.turns ≡ hall.now.turns)
+                × All ViewReady views.now }
+            ensures feeds { FeedsDid (stream F.left F.faults F.same) feeds.entry.now feeds.exit.now }
+            ensures control { ControlDid (stream S.left S.faults S.same) control.entry.now control.exit.now }
+            ensures views { ViewsDid views.entry.now views.exit.now }
+        { run_each(rt, alloc, hall, control, feeds, views, gate) },
+        &mut ||
+            requires { PlayerReady hall.now.turns player.now sender.now }
+            ensures { PlayerDid A.written A.faults A.same player.entry.now player.exit.now sender.entry.now sender.exit.now }
+        { run_player(rt, alloc, hall, player, sender, gate) },
+    );
+}
+
+/// The player, and the others, side by side.
 pub(crate) fn run_side_by_side<
     W: Threads + Wait + Sync,
     F: Source + Send,
@@ -184,32 +216,25 @@ pub(crate) fn run_side_by_side<
     rt: &W,
     alloc: Global,
     hall: &Hall,
-    feeds: &mut [FeedJob<F>],
-    control: &mut ControlJob<S>,
     player: &mut PlayerJob,
-    views: &mut [ViewJob],
-    board: &mut BoardWriter,
-    air: &mut A,
+    sender: &mut Sender<A>,
+    others: &mut Others<F, S>,
     gate: &G,
 )
-    requires player { PlayerReady hall.now.turns player.old board.old }
-    requires others { OthersReady hall.now.turns feeds.old control.old views.old }
-    ensures player { PlayerDid player.old player.new (A.written air.old) (A.written air.new) (A.faults air.old) (A.faults air.new) }
-    ensures posted { PlayerPosted player.old player.new board.old board.new }
-    ensures others { OthersDid F.left F.faults F.same S.left S.faults S.same feeds.old feeds.new control.old control.new views.old views.new }
-    ensures same { A.same air.old air.new }
+    requires player { PlayerReady hall.now.turns player.old sender.old }
+    requires others { OthersReady hall.now.turns others.old }
+    ensures player { PlayerDid A.written A.faults A.same player.old player.new sender.old sender.new }
+    ensures others { OthersDid (streams F.left F.faults F.same S.left S.faults S.same) others.old others.new }
 {
-    join_mut(
+    run_both(
         rt,
-        &mut ||
-            requires { PlayerReady hall.now.turns player.now board.now }
-            ensures did { PlayerDid player.entry.now player.exit.now (A.written air.entry.now) (A.written air.exit.now) (A.faults air.entry.now) (A.faults air.exit.now) }
-            ensures posted { PlayerPosted player.entry.now player.exit.now board.entry.now board.exit.now }
-            ensures same { A.same air.entry.now air.exit.now }
-        { run_player(rt, alloc, hall, player, board, air, gate) },
-        &mut ||
-            requires { IsSend F.row × IsSend S.row × IsSync W.row × IsSync G.row × OthersReady hall.now.turns feeds.now control.now views.now }
-            ensures { OthersDid F.left F.faults F.same S.left S.faults S.same feeds.entry.now feeds.exit.now control.entry.now control.exit.now views.entry.now views.exit.now }
-        { run_others(rt, alloc, hall, control, feeds, views, gate) },
+        alloc,
+        hall,
+        player,
+        sender,
+        &mut others.control,
+        others.feeds.as_mut_slice(),
+        others.views.as_mut_slice(),
+        gate,
     );
 }

@@ -4,7 +4,7 @@ ghost use Rattle.std.specs.Vec.{vec_len, vec_capacity};
 ghost use mathlib.Core.List.{IsPrefix};
 ghost use Rattle.guide_board.specs.Posts.{serves, services_in};
 ghost use Rattle.std.specs.List.{All};
-ghost use Rattle.headend_jobs.specs.Views.{AreSaid, EndWithNewest, ViewDid, ViewReady, Viewed};
+ghost use Rattle.headend_jobs.specs.Views.{AreSaid, Asked, EndWithNewest, ViewDid, ViewReady, Viewed};
 
 use guide_board::{NowNext, Told, Viewer};
 use std::marker::Sync;
@@ -20,46 +20,27 @@ pub struct ViewJob {
 }
 
 // Asks once, into room that is there.
-fn ask(viewer: &mut Viewer, service: u16, answers: &mut Vec<NowNext>)
-    requires served { serves (services_in viewer.old.posts) service ≡ true }
-    requires room { vec_len answers.old < vec_capacity answers.old }
-    requires said { AreSaid viewer.old.posts service answers.old.items }
-    ensures board { viewer.new.board ≡ viewer.old.board }
-    ensures seen { IsPrefix viewer.old.posts viewer.new.posts }
-    ensures services { services_in viewer.new.posts ≡ services_in viewer.old.posts }
-    ensures said { AreSaid viewer.new.posts service answers.new.items }
-    ensures newest { EndWithNewest viewer.new.posts service answers.new.items }
-    ensures len { vec_len answers.new ≡ vec_len answers.old + 1 }
-    ensures capacity { vec_capacity answers.new ≡ vec_capacity answers.old }
+fn ask(job: &mut ViewJob)
+    requires served { serves (services_in job.old.viewer.posts) job.old.service ≡ true }
+    requires room { vec_len job.old.answers < vec_capacity job.old.answers }
+    requires said { AreSaid job.old.viewer.posts job.old.service job.old.answers.items }
+    ensures asked { Asked 1 job.old job.new }
+    ensures newest { EndWithNewest job.new.viewer.posts job.old.service job.new.answers.items }
 {
-    let Ok(answer) = viewer.now_next(service) else {
+    let Ok(answer) = job.viewer.now_next(job.service) else {
         unreachable!()
     };
-    answers.push_reserved(answer);
+    job.answers.push_reserved(answer);
 }
 
-// Asks so often.
-fn ask_often(viewer: &mut Viewer, service: u16, times: u64, answers: &mut Vec<NowNext>)
-    requires served { serves (services_in viewer.old.posts) service ≡ true }
-    requires room { vec_len answers.old + times ≤ vec_capacity answers.old }
-    requires said { AreSaid viewer.old.posts service answers.old.items }
-    ensures board { viewer.new.board ≡ viewer.old.board }
-    ensures seen { IsPrefix viewer.old.posts viewer.new.posts }
-    ensures services { services_in viewer.new.posts ≡ services_in viewer.old.posts }
-    ensures said { AreSaid viewer.new.posts service answers.new.items }
-    ensures len { vec_len answers.new ≡ vec_len answers.old + times }
-    ensures capacity { vec_capacity answers.new ≡ vec_capacity answers.old }
-{
-    for _ in 0..times {
-        ask(viewer, service, answers);
-    }
-}
-
+// Asks as often as it is to.
 fn run_view(job: &mut ViewJob)
     requires { ViewReady job.old }
     ensures { ViewDid job.old job.new }
 {
-    ask_often(&mut job.viewer, job.service, job.times, &mut job.answers);
+    for _ in 0..job.times {
+        ask(job);
+    }
 }
 
 /// All viewers side by side.
@@ -89,6 +70,6 @@ impl ViewJob {
         ensures viewed { Viewed told.posts (length self.old.answers.items + 1) self.old.service self.new.viewer self.new.answers.items }
     {
         self.viewer.learn(told);
-        ask(&mut self.viewer, self.service, &mut self.answers);
+        ask(self);
     }
 }

@@ -1,6 +1,6 @@
 use Rattle.std.proofs.Common.{◌≡◌, ◌≤◌, ◌+◌, length}
 use Rattle.headend_jobs.proofs.Cutting.{Cut}
-use Rattle.headend_jobs.proofs.live.cut_all.Given as goal
+use Rattle.headend_jobs.proofs.crew.cut_all.Given as goal
 
 abbrev pub invariant-loop-lines : goal.invariant-loop-lines
 invariant-loop-lines g l = record {
