@@ -125,9 +125,7 @@ pub fn run<W: Threads + Wait + Sync, O: Opener, S: Source + Send, A: Sink + Send
     match parse_words(alloc, words) {
         Ok(Command::Play(play)) => run_play_words(alloc, &play, opener, input, air, report),
         Ok(Command::Listen(listen)) => run_listen_as(alloc, listen, input, report),
-        Ok(Command::Live(live)) => {
-            run_live_files(rt, alloc, &live, opener, input, air, report, gate)
-        }
+        Ok(Command::Live(live)) => { run_live_files(rt, &live, opener, input, air, report, gate) }
         Ok(Command::Soak(number)) => run_soak(rt, alloc, number, air, report, gate),
         Ok(Command::Audit(audit)) => {
             run_audit(

@@ -21,16 +21,16 @@ use Rattle.headend_jobs.specs.declared.live.LiveStop.{LiveStop}
 use Rattle.headend_jobs.specs.declared.live.LiveStop.TheVariants as live
 use Rattle.air_sending.specs.declared.send.SendStop.{SendStop}
 use Rattle.air_sending.specs.declared.send.SendStop.TheVariants as send
-use Rattle.headend_jobs.specs.Live.{after, and_stop, control_stop, or_feed, run_stop}
+use Rattle.headend_jobs.specs.Stops.{after, and_stop, control_stop, feeds_stop, or_feed, run_stop}
 use Rattle.epg_live.specs.declared.reporting.Observed.{Observed}
 use Rattle.epg_report.specs.declared.status.Status.{Status}
 use Rattle.epg_report.specs.declared.status.Status.TheVariants.{Done, BadMux, TooLong, OpenFault, ReadFault, WriteFault, Memory, NoView}
 use Rattle.epg_report.specs.declared.status.Origin.TheVariants.{Input, Feed, Recording}
 use Rattle.epg_report.specs.declared.status.Outlet.TheVariants.{Air}
 use Rattle.epg_report.specs.Told.{OpenerAsked, ReportTaken, SourceGave}
-use Rattle.epg_live.specs.Stops.{HasStatusCause, HaveReadCauses, feeds_stop, live_status}
+use Rattle.epg_live.specs.Stops.{HasStatusCause, HaveReadCauses, live_status}
 use Rattle.mux_config.specs.Texts.{ahead_of, described}
-use Rattle.epg_live.specs.Runs.{EndsBefore, FeedsDid, JobsRan, ReadFaults, read_faults}
+use Rattle.epg_live.specs.Runs.{EndsBefore, FeedsDid, JobsRan, LiveCall, live_call}
 use Rattle.epg_live.specs.Decided.{AreWhole, HasEdits, feed_text_stop, job_stop, jobs_status, text_status, description_status, views_status}
 use Rattle.epg_report.specs.Ends.{ReportEnds}
 use Rattle.epg_live.specs.Ends.{HasMet, run_text}
@@ -116,12 +116,12 @@ module _ (status : Status) (no_input : status ≡ ReadFault Input → ⊥) (no_a
   run_decided (Ok u) control ahead feeds fed is (inr (inr same)) (inr found) =
       inr (is ∙ ap (λ (o : Option LiveStop). live_status (and_stop (control_stop control) o)) found ∙ ap (λ (o : Option EditStop). live_status (and_stop (control_stop o) fed)) same)
 
-  jobs_decided : (mux : Mux) (plan : LivePlan) (text : List ℕ) (left : Option (List ℕ)) (behind : Ahead) (paths : List (List ℕ)) (files : Files) (faults_before faults_now : ReadFaults) (before now : Option (List ℕ)) (journal : List Entry) (observed : Observed)
-      → (Rose faults_before.feeds faults_now.feeds → ⊥) → JobsRan mux plan text left behind paths files faults_before faults_now before now journal observed status → (status ≡ Memory) ⊎ (status ≡ jobs_status behind paths files)
-  jobs_decided mux plan text left behind paths files faults_before faults_now before now journal observed none ran =
-      run_decided ran.sent ran.control_stop (controls_ahead behind).1 (feeds_stop None 1 ran.feed_stops) (feeds_stop None 1 (map (λ path. feed_text_stop (file_at path files)) paths)) ran.status_is
+  jobs_decided : (call : LiveCall) (mux : Mux) (behind : Ahead) (journal : List Entry) (observed : Observed) → (Rose call.faults_before.feeds call.faults_now.feeds → ⊥)
+      → JobsRan call mux behind journal observed status → (status ≡ Memory) ⊎ (status ≡ jobs_status behind call.paths call.files)
+  jobs_decided call mux behind journal observed none ran =
+      run_decided ran.sent ran.control_stop (controls_ahead behind).1 (feeds_stop None 1 ran.feed_stops) (feeds_stop None 1 (map (λ path. feed_text_stop (file_at path call.files)) call.paths)) ran.status_is
       (as_ahead (λ values. CommandsAre journal 0 (commands_by 0 control_step values ++ map command_of ran.final)) (controls_ahead behind) ran.control_stop ran.journal_is.control_did)
-      (feeds_decided files journal faults_before.feeds faults_now.feeds none None 1 paths ran.feed_stops ran.journal_is.feeds_did ran.causes)
+      (feeds_decided call.files journal call.faults_before.feeds call.faults_now.feeds none None 1 call.paths ran.feed_stops ran.journal_is.feeds_did ran.causes)
 
 -- ---- the run
 
@@ -131,32 +131,33 @@ fault_status views paths files fault (Came (Err here) behind) e = ap BadMux (cc 
 fault_status views paths files fault (Stopped (NoCommand n)) e = ap BadMux (cc e)
 fault_status views paths files fault (Stopped other) e = cc e
 
-before_decided : (plan : LivePlan) (text : List ℕ) (left : Option (List ℕ)) (paths : List (List ℕ)) (files : Files) (status : Status) → EndsBefore plan text left status → ((f : ℕ) → status ≡ OpenFault f → ⊥) → (status ≡ ReadFault Input → ⊥)
-    → status ≡ text_status text plan.views paths files
-before_decided plan text left paths files (BadMux fault) why no_open no_input = sym (fault_status plan.views paths files fault (described text) why)
-before_decided plan text left paths files (TooLong Input) why no_open no_input = sym (ap (λ (d : Found Description). description_status d plan.views paths files) why)
-before_decided plan text left paths files (ReadFault Input) why no_open no_input = absurd (no_input refl)
-before_decided plan text left paths files (OpenFault f) why no_open no_input = absurd (no_open f refl)
-before_decided plan text left paths files (NoView service) why no_open no_input =
-    sym (ap (λ (d : Found Description). description_status d plan.views paths files) why.2 ∙ ap (λ (o : Option ℕ). views_status o why.1 paths files) why.3)
-before_decided plan text left paths files (TooLong (Feed f)) why no_open no_input = absurd why
-before_decided plan text left paths files (TooLong Recording) why no_open no_input = absurd why
-before_decided plan text left paths files (ReadFault (Feed f)) why no_open no_input = absurd why
-before_decided plan text left paths files (ReadFault Recording) why no_open no_input = absurd why
-before_decided plan text left paths files other why no_open no_input = absurd why
+module _ (call : LiveCall) where
+  -- what the texts of the call decide
+  abbrev text_decides : Status
+  text_decides = text_status call.text call.plan.views call.paths call.files
 
--- a run that met neither a failed source nor a failed air met what the texts decide
-pub met_decided : (paths : List (List ℕ)) (plan : LivePlan) (text : List ℕ) (files : Files) (left : Option (List ℕ)) (faults_before faults_now : ReadFaults) (before now : Option (List ℕ)) (journal : List Entry) (observed : Observed) (met : Status)
-    → HasMet paths plan text files left faults_before faults_now before now journal observed met → ((f : ℕ) → met ≡ OpenFault f → ⊥) → (met ≡ ReadFault Input → ⊥) → (met ≡ WriteFault Air → ⊥) → (Rose faults_before.feeds faults_now.feeds → ⊥)
-    → (met ≡ Memory) ⊎ (met ≡ text_status text plan.views paths files)
-met_decided paths plan text files left faults_before faults_now before now journal observed met (inl memory) no_open no_input no_air no_feed = inl memory
-met_decided paths plan text files left faults_before faults_now before now journal observed met (inr (inl none)) no_open no_input no_air no_feed =
-    inr (before_decided plan text left paths files met none.why no_open no_input)
-met_decided paths plan text files left faults_before faults_now before now journal observed met (inr (inr (mux, behind, whole, ran))) no_open no_input no_air no_feed =
-    elim (jobs_decided met no_input no_air mux plan text left behind paths files faults_before faults_now before now journal observed no_feed ran) [
-      | inl memory ↦ inl memory
-      | inr ends ↦ inr (ends ∙ sym (ap (λ (d : Found Description). description_status d plan.views paths files) whole ∙ ap (λ (o : Option ℕ). views_status o behind paths files) ran.served))
-    ]
+  before_decided : (status : Status) → EndsBefore call status → ((f : ℕ) → status ≡ OpenFault f → ⊥) → (status ≡ ReadFault Input → ⊥) → status ≡ text_decides
+  before_decided (BadMux fault) why no_open no_input = sym (fault_status call.plan.views call.paths call.files fault (described call.text) why)
+  before_decided (TooLong Input) why no_open no_input = sym (ap (λ (d : Found Description). description_status d call.plan.views call.paths call.files) why)
+  before_decided (ReadFault Input) why no_open no_input = absurd (no_input refl)
+  before_decided (OpenFault f) why no_open no_input = absurd (no_open f refl)
+  before_decided (NoView service) why no_open no_input =
+      sym (ap (λ (d : Found Description). description_status d call.plan.views call.paths call.files) why.2 ∙ ap (λ (o : Option ℕ). views_status o why.1 call.paths call.files) why.3)
+  before_decided (TooLong (Feed f)) why no_open no_input = absurd why
+  before_decided (TooLong Recording) why no_open no_input = absurd why
+  before_decided (ReadFault (Feed f)) why no_open no_input = absurd why
+  before_decided (ReadFault Recording) why no_open no_input = absurd why
+  before_decided other why no_open no_input = absurd why
+
+  -- a run that met neither a failed source nor a failed air met what the texts decide
+  pub met_decided : (journal : List Entry) (observed : Observed) (met : Status) → HasMet call journal observed met → ((f : ℕ) → met ≡ OpenFault f → ⊥) → (met ≡ ReadFault Input → ⊥) → (met ≡ WriteFault Air → ⊥)
+      → (Rose call.faults_before.feeds call.faults_now.feeds → ⊥) → (met ≡ Memory) ⊎ (met ≡ text_decides)
+  met_decided journal observed met (inl memory) no_open no_input no_air no_feed = inl memory
+  met_decided journal observed met (inr (inl none)) no_open no_input no_air no_feed = inr (before_decided met none.why no_open no_input)
+  met_decided journal observed met (inr (inr (mux, behind, whole, ran))) no_open no_input no_air no_feed = elim (jobs_decided met no_input no_air call mux behind journal observed no_feed ran) [
+    | inl memory ↦ inl memory
+    | inr ends ↦ inr (ends ∙ sym (ap (λ (d : Found Description). description_status d call.plan.views call.paths call.files) whole ∙ ap (λ (o : Option ℕ). views_status o behind call.paths call.files) ran.served))
+  ]
 
 pub decided : (paths : List (List ℕ)) (plan : LivePlan) (text : List ℕ) (files : Files) (opener : OpenerAsked) (input : SourceGave) (air report : ReportTaken) (status : Status)
     → LeavesLive paths plan text files opener input air report status → HasStatusCause input.faults_old input.faults_new opener.read_old opener.read_new air.faults_old air.faults_new status → ((f : ℕ) → status ≡ OpenFault f → ⊥)
@@ -167,9 +168,10 @@ decided paths plan text files opener input air report status (inr run) cause no_
     by : ReportEnds run.met (run_text run.journal run.observed) report status → (status ≡ Memory) ⊎ (status ≡ text_status text plan.views paths files)
     by (inr (rose, took, same)) = absurd (no_report rose)
     by (inl (took, same)) =
+        let call = live_call paths plan text files opener input air in
         let caused : (s : Status) → run.met ≡ s → HasStatusCause input.faults_old input.faults_new opener.read_old opener.read_new air.faults_old air.faults_new s = (λ s e. subst (λ (t : Status). HasStatusCause input.faults_old input.faults_new opener.read_old opener.read_new air.faults_old air.faults_new t) (same ∙ e) cause) in
-        let met = met_of paths plan text files input.new (read_faults input.faults_old opener.read_old) (read_faults input.faults_new opener.read_new) opener.tried_old opener.tried_new air.old air.new run.journal run.observed run.met run.ran in
-        elim (met_decided paths plan text files input.new (read_faults input.faults_old opener.read_old) (read_faults input.faults_new opener.read_new) air.old air.new run.journal run.observed run.met met (λ f e. no_open f (same ∙ e)) (λ e. no_read (caused (ReadFault Input) e)) (λ e. no_air (caused (WriteFault Air) e)) no_feed) [
+        let met = met_of call opener.tried_old opener.tried_new run.journal run.observed run.met run.ran in
+        elim (met_decided call run.journal run.observed run.met met (λ f e. no_open f (same ∙ e)) (λ e. no_read (caused (ReadFault Input) e)) (λ e. no_air (caused (WriteFault Air) e)) no_feed) [
           | inl memory ↦ inl (same ∙ memory)
           | inr ends ↦ inr (same ∙ ends)
         ]

@@ -24,7 +24,8 @@ use Rattle.headend_jobs.specs.declared.live.LiveStop.{LiveStop}
 use Rattle.air_sending.specs.declared.send.SendStop.{SendStop}
 use Rattle.air_sending.specs.declared.send.SendStop.TheVariants as send
 use Rattle.air_sending.specs.AirOf.{AirDid, AirOf}
-use Rattle.headend_jobs.specs.Live.{LastMade, and_stop, control_stop, halts, run_stop, sent_stop}
+use Rattle.headend_jobs.specs.Live.{LastMade}
+use Rattle.headend_jobs.specs.Stops.{and_stop, control_stop, feeds_stop, halts, run_stop, sent_stop}
 use Rattle.headend_live.specs.Watched.{guide_of_air}
 use Rattle.air_sending.proofs.Sent.{air_sent}
 use Rattle.journal_text.specs.Back.{IsOfLines, IsWritten}
@@ -34,13 +35,13 @@ use Rattle.epg_report.specs.declared.status.Status.{Status}
 use Rattle.epg_report.specs.declared.status.Status.TheVariants.{Done, Memory}
 use Rattle.epg_report.specs.Told.{OpenerAsked, ReportTaken, SourceGave}
 use Rattle.epg_live.specs.declared.reporting.Observed.{Observed}
-use Rattle.epg_live.specs.Stops.{feeds_stop}
 use Rattle.mux_config.specs.Texts.{ahead_of, described}
-use Rattle.epg_live.specs.Runs.{EndsBefore, JobsRan, NoJobs, ReadFaults, read_faults}
+use Rattle.epg_live.specs.Runs.{EndsBefore, JobsRan, LiveCall, live_call}
 use Rattle.epg_report.specs.Ends.{ReportEnds, or_report}
 use Rattle.epg_live.specs.Ends.{HasMet, HasMetAsking, run_text}
 use Rattle.epg_live.specs.Leaves.{LeavesLive}
-use Rattle.epg_live.proofs.StopFacts.{and_none, done_none, no_control}
+use Rattle.headend_live.proofs.Viewed.{and_none}
+use Rattle.epg_live.proofs.StopFacts.{done_none, no_control}
 use Rattle.epg_live.proofs.ReportFacts.{is_script, none_is_script}
 use Rattle.epg_live.proofs.TypedFacts.{run_of_lines, run_typed}
 
@@ -80,44 +81,34 @@ told_guide : (guide : Option Heard) (heard : Heard) → IsSome guide → IfSome 
 told_guide None heard some is = (let no : false ≡ true = some in cc no)
 told_guide (Some h) heard some is = ap (λ (x : Heard). Some x) is
 
-module _ (mux : Mux) (plan : LivePlan) (text : List ℕ) (left : Option (List ℕ)) (behind : Ahead) (paths : List (List ℕ)) (files : Files) (faults_before faults_now : ReadFaults)
-    (before now : Option (List ℕ)) (journal : List Entry) (observed : Observed) (status : Status) (whole : described text ≡ Came (Ok mux) behind)
-    (ran : JobsRan mux plan text left behind paths files faults_before faults_now before now journal observed status) where
-  abbrev fed : Option LiveStop
-  fed = feeds_stop None 1 ran.feed_stops
-
+module _ (call : LiveCall) (mux : Mux) (behind : Ahead) (journal : List Entry) (observed : Observed) (status : Status) (whole : described call.text ≡ Came (Ok mux) behind)
+    (ran : JobsRan call mux behind journal observed status) where
   pub as_read : IsAsRead mux journal
   as_read =
-      let typed = run_typed mux plan.cycles text left behind paths files journal ran.player ran.control_stop ran.feed_stops ran.final (halts ran.player ran.control_stop fed) ran.sent
-      ran.journal_is ran.last in
-      let kept = described_texts_are_kept (ahead_of text) mux behind whole in
+      let typed = run_typed call mux behind journal observed status ran in
+      let kept = described_texts_are_kept (ahead_of call.text) mux behind whole in
       record {
-        sound = whole_descriptions_are_sound (ahead_of text) mux behind whole;
+        sound = whole_descriptions_are_sound (ahead_of call.text) mux behind whole;
         network = kept.0;
         services = fed_named mux kept.1;
         edits = typed.0;
         steps = typed.1;
       }
 
-  -- it was read from lines, where it was written
-  of_lines : length paths ≤ 255 → AllByRecursion IsWritten journal → AllByRecursion IsOfLines journal
-  of_lines few written =
-      run_of_lines mux plan.cycles text left behind paths files journal ran.player ran.control_stop ran.feed_stops ran.final (halts ran.player ran.control_stop fed) ran.sent
-      ran.journal_is ran.last as_read.sound.sound few written
-
-  pub ran_shown : status ≡ Done → (sent : List ℕ) → before ≡ Some sent → IsShownLast plan.join mux journal before now observed.guide
+  pub ran_shown : status ≡ Done → (sent : List ℕ) → call.before ≡ Some sent → IsShownLast call.plan.join mux journal call.before call.now observed.guide
   ran_shown done sent knows =
+      let fed = feeds_stop None 1 ran.feed_stops in
       let none = done_none (run_stop ran.sent ran.control_stop fed) (sym ran.status_is ∙ done) in
       let stops = and_none (sent_stop ran.sent) (and_stop (control_stop ran.control_stop) fed) none in
       let jobs = and_none (control_stop ran.control_stop) fed stops.1 in
-      let air = all_aired mux journal before now ran.sent stops.0 ran.air_is in
+      let air = all_aired mux journal call.before call.now ran.sent stops.0 ran.air_is in
       let was = ran.was_heard sent knows in
-      let taken = told_taken before now sent was.taken (air_bytes air.cycles) knows was.gave air.bytes in
-      let guide = told_guide observed.guide (guide_of_air plan.join was.taken) (ran.told.1 done) was.guide in
-      let told = tick_of mux journal plan.cycles in
+      let taken = told_taken call.before call.now sent was.taken (air_bytes air.cycles) knows was.gave air.bytes in
+      let guide = told_guide observed.guide (guide_of_air call.plan.join was.taken) (ran.told.1 done) was.guide in
+      let told = tick_of mux journal call.plan.cycles in
       let last = last_made told ran.player ran.sent ran.control_stop fed ran.final ran.failed stops.0 (no_control ran.control_stop jobs.0) jobs.1 ran.last in
-      journals_last 0 plan.join mux journal as_read ran.journal_is.legal (ends_published told journal ran.journal_is.front ran.final ran.journal_is.ends last)
-      air.cycles air.is_air before now air.bytes observed.guide (guide ∙ ap (λ (bytes : List ℕ). Some (guide_of (drop plan.join (whole_packets bytes)))) taken)
+      journals_last 0 call.plan.join mux journal as_read ran.journal_is.legal (ends_published told journal ran.journal_is.front ran.final ran.journal_is.ends last)
+      air.cycles air.is_air call.before call.now air.bytes observed.guide (guide ∙ ap (λ (bytes : List ℕ). Some (guide_of (drop call.plan.join (whole_packets bytes)))) taken)
 
 -- ---- the run
 
@@ -126,20 +117,15 @@ by_memory text report met status is (inl (took, same)) = same ∙ is
 by_memory text report met status is (inr (rose, took, same)) = same ∙ ap or_report is
 
 -- what was met, whatever was asked for
-pub met_of : (paths : List (List ℕ)) (plan : LivePlan) (text : List ℕ) (files : Files) (left : Option (List ℕ)) (faults_before faults_now : ReadFaults) (tried_before tried_now : Option (List (List ℕ))) (before now : Option (List ℕ))
-    (journal : List Entry) (observed : Observed) (met : Status) → HasMetAsking paths plan text files left faults_before faults_now tried_before tried_now before now journal observed met
-    → HasMet paths plan text files left faults_before faults_now before now journal observed met
-met_of paths plan text files left faults_before faults_now tried_before tried_now before now journal observed met (inl memory) = inl memory
-met_of paths plan text files left faults_before faults_now tried_before tried_now before now journal observed met (inr (inl none)) = inr (inl none.0)
-met_of paths plan text files left faults_before faults_now tried_before tried_now before now journal observed met (inr (inr ran)) = inr (inr ran.0)
-
-none_done : (plan : LivePlan) (text : List ℕ) (left before now : Option (List ℕ)) (journal : List Entry) (observed : Observed) (met : Status) → NoJobs plan text left before now journal observed met → met ≡ Done → Prim.⊥
-none_done plan text left before now journal observed met none done = subst (λ (s : Status). EndsBefore plan text left s) done none.why
+pub met_of : (call : LiveCall) (tried_before tried_now : Option (List (List ℕ))) (journal : List Entry) (observed : Observed) (met : Status) → HasMetAsking call tried_before tried_now journal observed met
+    → HasMet call journal observed met
+met_of call tried_before tried_now journal observed met (inl memory) = inl memory
+met_of call tried_before tried_now journal observed met (inr (inl none)) = inr (inl none.0)
+met_of call tried_before tried_now journal observed met (inr (inr ran)) = inr (inr ran.0)
 
 pub leaves : (paths : List (List ℕ)) (plan : LivePlan) (text : List ℕ) (files : Files) (opener : OpenerAsked) (input : SourceGave) (air report : ReportTaken) (journal : List Entry) (observed : Observed) (met status : Status)
-    → length paths ≤ 255 → AllByRecursion IsWritten journal
-    → HasMetAsking paths plan text files input.new (read_faults input.faults_old opener.read_old) (read_faults input.faults_new opener.read_new) opener.tried_old opener.tried_new air.old air.new journal observed met → ReportEnds met (run_text journal observed) report status
-    → LeavesLive paths plan text files opener input air report status
+    → length paths ≤ 255 → AllByRecursion IsWritten journal → HasMetAsking (live_call paths plan text files opener input air) opener.tried_old opener.tried_new journal observed met
+    → ReportEnds met (run_text journal observed) report status → LeavesLive paths plan text files opener input air report status
 leaves paths plan text files opener input air report journal observed met status few written (inl memory) ends = inl (by_memory (run_text journal observed) report met status memory ends)
 leaves paths plan text files opener input air report journal observed met status few written (inr (inl (none, tried))) ends = inr (record {
   journal = journal;
@@ -150,20 +136,19 @@ leaves paths plan text files opener input air report journal observed met status
   of_lines = subst (AllByRecursion IsOfLines) (sym none.journal_is) tt;
   again = none_is_script text journal none.journal_is;
   sent = inl none.sent;
-  shown = λ done sent knows. absurd (none_done plan text input.new air.old air.new journal observed met none done);
+  shown = λ done sent knows. absurd (subst (EndsBefore (live_call paths plan text files opener input air)) done none.why);
 })
 leaves paths plan text files opener input air report journal observed met status few written (inr (inr ((mux, behind, whole, ran), tried))) ends =
-    let before = read_faults input.faults_old opener.read_old in
-    let now = read_faults input.faults_new opener.read_new in
-    let read = as_read mux plan text input.new behind paths files before now air.old air.new journal observed met whole ran in
+    let call = live_call paths plan text files opener input air in
+    let read = as_read call mux behind journal observed met whole ran in
     inr (record {
       journal = journal;
       observed = observed;
       met = met;
       ran = inr (inr ((mux, behind, whole, ran), tried));
       reported = ends;
-      of_lines = of_lines mux plan text input.new behind paths files before now air.old air.new journal observed met whole ran few written;
+      of_lines = run_of_lines call mux behind journal observed met ran read.sound.sound few written;
       again = is_script text mux behind journal whole ran.journal_is.legal;
       sent = inr (mux, behind, whole, air_sent mux journal air.old air.new ran.sent read ran.journal_is.legal ran.air_is);
-      shown = λ done sent knows. (mux, behind, whole, ran_shown mux plan text input.new behind paths files before now air.old air.new journal observed met whole ran done sent knows);
+      shown = λ done sent knows. (mux, behind, whole, ran_shown call mux behind journal observed met whole ran done sent knows);
     })

@@ -2,7 +2,7 @@ pub mod StopFacts
 mod OpenFacts
 mod RanFacts
 mod DescribedFacts
-mod MetFacts
+pub mod MetFacts
 pub mod DecidedFacts
 mod ControlFacts
 mod ShapeFacts

@@ -76,8 +76,12 @@ texts_more {Y = Y} paths i path lt is =
     take_more (texts paths) i (string_bytes path) (omega (arith, lt, length-map paths string_bytes))
     ∙ ap (λ (b : List ℕ). take i (texts paths) ++ b ∷ []) (get_or-map (λ (p : String Y). string_bytes p) paths i path (string_bytes path) lt ∙ ap (λ (p : String Y). string_bytes p) (sym is))
 
-pub texts_all : {Y : Type 0} (paths : List (String Y)) → take (length paths) (texts paths) ≡ texts paths
-texts_all paths = take_all (length paths) (texts paths) (omega (arith, length-map paths string_bytes))
+-- all are opened, where none is left
+pub all_opened : {Y S : Type 0} (paths : List (String Y)) (i : ℕ) (left : S → Option (List ℕ)) (faults : S → ℕ) (files : Option Files) (old new : Option (List (List ℕ))) (readers : List (Reading S)) → length paths ≤ i
+    → AreOpened left faults files (take i (texts paths)) readers → HasTried old new (take i (texts paths)) → AreOpened left faults files (texts paths) readers × HasTried old new (texts paths)
+all_opened paths i left faults files old new readers all opened tried =
+    let is : take i (texts paths) ≡ texts paths = take_all i (texts paths) (omega (arith, all, length-map paths string_bytes)) in
+    (subst (λ (l : List (List ℕ)). AreOpened left faults files l readers) is opened, subst (λ (l : List (List ℕ)). HasTried old new l) is tried)
 
 -- ---- one path more
 

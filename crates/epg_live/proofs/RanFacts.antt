@@ -1,12 +1,18 @@
 -- From what a run did to what it leaves of the texts of its files.
-use Rattle.std.proofs.Common.{◌≡◌, ◌≢◌, ◌⊎◌, inl, inr, ℕ, ◌+◌, ◌<◌, arith, List, [], ◌∷◌, ◌++◌, map, refl, sym, ap, ◌∙◌, subst}
+use Rattle.std.proofs.Common.{◌≡◌, inl, inr, ℕ, ◌+◌, ◌<◌, ◌≤◌, arith, List, [], ◌∷◌, ◌++◌, length, map, refl, sym, ap, ◌∙◌, subst}
 use Rattle.std.specs.Prelude.{Option, Some, None, Ok, Err, Result}
+use Rattle.std.specs.Io.KnownBytes.{IsAtEnd}
+use Rattle.std.proofs.Math.Seq.{take-length}
 use Rattle.si_causes.specs.Causes.{Rose}
 use Rattle.si_causes.specs.Opening.{Files, GivesFile, file_at}
-use Rattle.si_causes.specs.Reading.{Reading, text_left}
+use Rattle.si_causes.specs.Reading.{Reading, fresh, text_left}
 use Rattle.si_causes.specs.declared.stop.ReadStop.TheVariants.{Failed, TooLong as Overlong}
+use Rattle.si_causes.proofs.CauseFacts.{Rose-from}
 use Rattle.si_causes.proofs.TextFacts.{fresh_text}
 use Rattle.mux_model.specs.declared.mux.Mux.{Mux}
+use Rattle.mux_config.specs.Reads.{ReadMux}
+use Rattle.mux_config.specs.Texts.{ahead_of}
+use Rattle.mux_config.proofs.Reading.{mux_read}
 use Rattle.si_time.specs.declared.moment.Moment.{Moment}
 use Rattle.input_lines.specs.declared.stop.EditStop.{EditStop}
 use Rattle.input_lines.specs.declared.stop.EditStop.TheVariants as edit
@@ -14,60 +20,33 @@ use Rattle.input_lines.specs.Ahead.{ahead}
 use Rattle.script_lines.specs.Edits.{edits_ahead}
 use Rattle.journal_model.specs.declared.step.Entry.{Entry}
 use Rattle.journal_model.specs.Steps.{command_of}
-use Rattle.desk_hall.specs.Reads.{HasReadCause, commands_by, edit_step, ToldDid}
+use Rattle.desk_hall.specs.Reads.{HasReadCause, Stream, ToldDid, commands_by, edit_step}
 use Rattle.turn_lock.specs.Knowledge.{TableId}
 use Rattle.headend_jobs.specs.declared.jobs.FeedJob.{FeedJob}
 use Rattle.headend_jobs.specs.declared.live.LiveStop.{LiveStop}
 use Rattle.headend_jobs.specs.declared.live.LiveStop.TheVariants as live
-use Rattle.air_sending.specs.Tallied.{IsTallyOf}
+use Rattle.headend_jobs.specs.Callers.{CallerRead, CommandsAre, FeedsRead}
+use Rattle.headend_jobs.specs.Jobs.{FeedsDid as TheyDid, Streams, lines_of, new_feeds, stops_of}
+use Rattle.headend_jobs.specs.Live.{LastMade}
+use Rattle.headend_jobs.specs.Ran.{Taken}
+use Rattle.headend_jobs.specs.Stops.{feeds_stop, halts, run_stop}
+use Rattle.headend_jobs.specs.Ticking.{tick_of}
 use Rattle.air_sending.specs.declared.send.SendStop.{SendStop}
 use Rattle.headend_live.specs.declared.watched.LivePlan.{LivePlan}
 use Rattle.headend_live.specs.declared.watched.LiveEnd.{LiveEnd}
-use Rattle.headend_jobs.specs.Back.{lines_back}
-use Rattle.headend_jobs.specs.Callers.{CallerRead, CommandsAre, FeedsRead}
-use Rattle.headend_jobs.specs.Live.{FeedsRan, LastMade, first_stop, halts, or_feed, run_stop}
-use Rattle.headend_jobs.specs.Ticking.{tick_of}
 use Rattle.headend_live.specs.Watched.{WatchedRan, watched_stop}
-use Rattle.std.specs.Io.KnownBytes.{IsAtEnd}
 use Rattle.epg_report.specs.Rates.{rate_line}
-use Rattle.epg_report.specs.declared.status.Status.{Status}
-use Rattle.epg_report.specs.declared.status.Status.TheVariants.{Done, Memory}
+use Rattle.epg_report.specs.Told.{OpenerAsked, ReportTaken, gave}
+use Rattle.epg_live.specs.declared.reporting.LiveResult.{LiveResult}
 use Rattle.epg_live.specs.Views.{unserved}
-use Rattle.epg_live.specs.Opened.{AreOpened, IfFailed, IsOpened}
-use Rattle.epg_live.specs.Stops.{HasStatusCause, HaveReadCauses, feeds_stop, live_status}
-use Rattle.mux_config.specs.Texts.{ahead_of}
-use Rattle.epg_live.specs.Runs.{CallerDid, ControlTook, FeedsDid, HasRead, Ran, read_faults}
-use Rattle.epg_live.proofs.DescribedFacts.{control_took}
+use Rattle.epg_live.specs.Opened.{AreOpened, HasTried, IfFailed, IsOpened}
+use Rattle.epg_live.specs.Stops.{HasStatusCause, HaveReadCauses, live_status}
+use Rattle.epg_live.specs.Met.{LiveMet}
+use Rattle.epg_live.specs.Runs.{CallerDid, ControlTook, FeedsDid, Ran, live_call}
+use Rattle.epg_live.proofs.DescribedFacts.{control_took, has_read}
+use Rattle.epg_live.proofs.MetFacts.{of_jobs}
 use Rattle.epg_live.proofs.OpenFacts.{opened_length}
 use Rattle.epg_live.proofs.StopFacts.{done_control, done_none, done_told, memory_or, run_caused, unless_wanting}
-
--- ---- the stops of the feeds, in the order of their numbers
-
-abbrev stops_back : {S : Type 0} → List (FeedJob S) → List (Option EditStop)
-stops_back [] = []
-stops_back (job ∷ jobs) = stops_back jobs ++ job.stop ∷ []
-
--- the last job's is the first
-stops_last : {S : Type 0} (jobs : List (FeedJob S)) (job : FeedJob S) → stops_back (jobs ++ job ∷ []) ≡ job.stop ∷ stops_back jobs
-stops_last [] job = refl
-stops_last (j ∷ jobs) job = ap (λ l. l ++ j.stop ∷ []) (stops_last jobs job)
-
-lines_last : {S : Type 0} (jobs : List (FeedJob S)) (job : FeedJob S) → lines_back (jobs ++ job ∷ []) ≡ job.lines ∷ lines_back jobs
-lines_last [] job = refl
-lines_last (j ∷ jobs) job = ap (λ l. l ++ j.lines ∷ []) (lines_last jobs job)
-
--- the first stop, behind what there was before
-abbrev first_behind : {S : Type 0} → Option LiveStop → List (FeedJob S) → Option LiveStop
-first_behind first [] = first
-first_behind first (job ∷ jobs) = or_feed (first_behind first jobs) job.feed job.stop
-
-first_is : {S : Type 0} (jobs : List (FeedJob S)) → first_stop jobs ≡ first_behind None jobs
-first_is [] = refl
-first_is (job ∷ jobs) = ap (λ o. or_feed o job.feed job.stop) (first_is jobs)
-
-first_last : {S : Type 0} (first : Option LiveStop) (jobs : List (FeedJob S)) (job : FeedJob S) → first_behind first (jobs ++ job ∷ []) ≡ first_behind (or_feed first job.feed job.stop) jobs
-first_last first [] job = refl
-first_last first (j ∷ jobs) job = ap (λ o. or_feed o j.feed j.stop) (first_last first jobs job)
 
 -- ---- the feeds
 
@@ -75,53 +54,54 @@ text_of : (files : Files) (path : List ℕ) (left : Option (List ℕ)) → Gives
 text_of files path None holds = absurd holds
 text_of files path (Some text) holds = (text, holds, refl)
 
-module _ {F : Type 0} (left : F → Option (List ℕ)) (faults : F → ℕ) (is_same : F → F → Type 0) (files : Files) (journal : List Entry) where
-  feed_did : (f : ℕ) (path : List ℕ) (reader : Reading F) (job : FeedJob F) → IsOpened left faults (Some files) path reader → CallerRead (edit_step f) edits_ahead left journal (f + 1) [] reader job.lines job.stop
+feed_cause : (before now : ℕ) (was is : ℕ) (stop : Option EditStop) → was ≡ 0 → (0 < is → Rose before now) → HasReadCause was is stop → HasReadCause before now stop
+feed_cause before now was is None none rose cause = tt
+feed_cause before now was is (Some (edit.NoCommand n)) none rose cause = tt
+feed_cause before now was is (Some (edit.Read Failed)) none rose (inl more) = rose (omega (arith, more))
+feed_cause before now was is (Some (edit.Read Failed)) none rose (inr last) = rose (omega (arith, last))
+feed_cause before now was is (Some (edit.Read Overlong)) none rose cause = tt
+feed_cause before now was is (Some edit.Memory) none rose cause = tt
+
+-- the count of the input's faults may have risen before the jobs started
+read_from : (old mid now : ℕ) (stop : Option EditStop) → old ≤ mid → HasReadCause mid now stop → HasReadCause old now stop
+read_from old mid now (Some (edit.Read Failed)) le cause = Rose-from old mid now le cause
+read_from old mid now (Some (edit.Read Overlong)) le cause = tt
+read_from old mid now other le cause = tt
+
+module _ {F : Type 0} (s : Stream F) where
+  feed_did : (files : Files) (journal : List Entry) (f : ℕ) (path : List ℕ) (reader : Reading F) (job : FeedJob F) → IsOpened s.left s.faults (Some files) path reader
+      → CallerRead (edit_step f) edits_ahead s.left journal (f + 1) [] reader job.lines job.stop
       → (text : List ℕ) × (file_at path files ≡ Some text) × CallerDid journal (f + 1) (edit_step f) (edits_ahead (ahead_of text)) [] job.stop
-  feed_did f path reader job opened read =
-      let (text, is, told) = text_of files path (left opened.source) opened.holds in
+  feed_did files journal f path reader job opened read =
+      let (text, is, told) = text_of files path (s.left opened.source) opened.holds in
       let did : ToldDid (λ values. CommandsAre journal (f + 1) (commands_by (f + 1) (edit_step f) values ++ [])) (edits_ahead (ahead reader text)) job.stop =
-      read.told (ap (λ (r : Reading F). r.stop) opened.unread) text (ap (λ (r : Reading F). text_left left r) opened.unread ∙ fresh_text left opened.source ∙ told) in (
+      read.told (ap (λ (r : Reading F). r.stop) opened.unread) text (ap (λ (r : Reading F). text_left s.left r) opened.unread ∙ fresh_text s.left opened.source ∙ told) in (
         text,
         is,
         subst (λ (r : Reading F). CallerDid journal (f + 1) (edit_step f) (edits_ahead (ahead r text)) [] job.stop) opened.unread did,
       )
 
-  feeds_did : (f : ℕ) (paths : List (List ℕ)) (readers : List (Reading F)) (jobs : List (FeedJob F)) → AreOpened left faults (Some files) paths readers → FeedsRead left journal f readers jobs
-      → FeedsDid files journal f paths (stops_back jobs)
-  feeds_did f [] [] jobs opened is = subst (λ (l : List (FeedJob F)). FeedsDid files journal f [] (stops_back l)) (sym is) tt
-  feeds_did f [] (r ∷ rs) jobs opened is = absurd opened
-  feeds_did f (p ∷ ps) [] jobs opened is = absurd opened
-  feeds_did f (p ∷ ps) (r ∷ rs) jobs (one, opened) (rest, job, is, number, read, more) =
-      subst (λ (l : List (Option EditStop)). FeedsDid files journal f (p ∷ ps) l) (sym (ap stops_back is ∙ stops_last rest job))
-      (feed_did f p r job one read, feeds_did (f + 1) ps rs rest opened more)
+  feeds_did : (files : Files) (journal : List Entry) (f : ℕ) (paths : List (List ℕ)) (readers : List (Reading F)) (jobs : List (FeedJob F)) → AreOpened s.left s.faults (Some files) paths readers
+      → FeedsRead s.left journal f readers jobs → FeedsDid files journal f paths (stops_of jobs)
+  feeds_did files journal f [] [] [] opened read = tt
+  feeds_did files journal f [] [] (job ∷ jobs) opened read = absurd read
+  feeds_did files journal f [] (r ∷ rs) jobs opened read = absurd opened
+  feeds_did files journal f (p ∷ ps) [] jobs opened read = absurd opened
+  feeds_did files journal f (p ∷ ps) (r ∷ rs) [] opened read = absurd read
+  feeds_did files journal f (p ∷ ps) (r ∷ rs) (job ∷ jobs) (one, opened) (number, read, more) =
+      (feed_did files journal f p r job one read, feeds_did files journal (f + 1) ps rs jobs opened more)
 
-  feeds_first : (first : Option LiveStop) (f : ℕ) (readers : List (Reading F)) (jobs : List (FeedJob F)) → FeedsRead left journal f readers jobs → first_behind first jobs ≡ feeds_stop first f (stops_back jobs)
-  feeds_first first f [] jobs is = ap (first_behind first) is ∙ ap (λ (l : List (FeedJob F)). feeds_stop first f (stops_back l)) (sym is)
-  feeds_first first f (r ∷ rs) jobs (rest, job, is, number, read, more) =
-      ap (first_behind first) is ∙ first_last first rest job ∙ ap (λ n. first_behind (or_feed first n job.stop) rest) number
-      ∙ feeds_first (or_feed first f job.stop) (f + 1) rs rest more
-      ∙ ap (feeds_stop first f) (sym (ap stops_back is ∙ stops_last rest job))
-
-  feed_cause : (before now : ℕ) (was is : ℕ) (stop : Option EditStop) → was ≡ 0 → (0 < is → Rose before now) → HasReadCause was is stop → HasReadCause before now stop
-  feed_cause before now was is None none rose cause = tt
-  feed_cause before now was is (Some (edit.NoCommand n)) none rose cause = tt
-  feed_cause before now was is (Some (edit.Read Failed)) none rose (inl more) = rose (omega (arith, more))
-  feed_cause before now was is (Some (edit.Read Failed)) none rose (inr last) = rose (omega (arith, last))
-  feed_cause before now was is (Some (edit.Read Overlong)) none rose cause = tt
-  feed_cause before now was is (Some edit.Memory) none rose cause = tt
-
-  feeds_caused : (turns : TableId) (mux : Mux) (before now : ℕ) (f : ℕ) (paths : List (List ℕ)) (known : Option Files) (readers : List (Reading F)) (jobs : List (FeedJob F)) → AreOpened left faults known paths readers
-      → FeedsRan left faults is_same turns mux f readers jobs → IfFailed faults (Rose before now) (lines_back jobs) → HaveReadCauses before now (stops_back jobs)
-  feeds_caused turns mux before now f [] known [] jobs opened is rose = subst (λ (l : List (FeedJob F)). HaveReadCauses before now (stops_back l)) (sym is) tt
-  feeds_caused turns mux before now f [] known (r ∷ rs) jobs opened is rose = absurd opened
-  feeds_caused turns mux before now f (p ∷ ps) known [] jobs opened is rose = absurd opened
-  feeds_caused turns mux before now f (p ∷ ps) known (r ∷ rs) jobs (one, opened) (rest, job, is, did, more) rose =
-      let both : (0 < faults job.lines.source → Rose before now) × IfFailed faults (Rose before now) (lines_back rest) = subst (λ (l : List (Reading F)). IfFailed faults (Rose before now) l) (ap lines_back is ∙ lines_last rest job) rose in
-      subst (λ (l : List (Option EditStop)). HaveReadCauses before now l) (sym (ap stops_back is ∙ stops_last rest job)) (
-        feed_cause before now (faults r.source) (faults job.lines.source) job.stop (ap (λ (o : Reading F). faults o.source) one.unread ∙ one.sound) both.0 (did.read.cause (ap (λ (o : Reading F). o.stop) one.unread)),
-        feeds_caused turns mux before now (f + 1) ps known rs rest opened more both.1,
-      )
+  feeds_caused : (turns : TableId) (mux : Mux) (before now f : ℕ) (paths : List (List ℕ)) (known : Option Files) (readers : List (Reading F)) (jobs : List (FeedJob F)) → AreOpened s.left s.faults known paths readers
+      → TheyDid s (new_feeds turns mux f readers) jobs → IfFailed s.faults (Rose before now) (lines_of jobs) → HaveReadCauses before now (stops_of jobs)
+  feeds_caused turns mux before now f [] known [] [] opened did rose = tt
+  feeds_caused turns mux before now f [] known [] (job ∷ jobs) opened did rose = absurd did
+  feeds_caused turns mux before now f [] known (r ∷ rs) jobs opened did rose = absurd opened
+  feeds_caused turns mux before now f (p ∷ ps) known [] jobs opened did rose = absurd opened
+  feeds_caused turns mux before now f (p ∷ ps) known (r ∷ rs) [] opened did rose = absurd did
+  feeds_caused turns mux before now f (p ∷ ps) known (r ∷ rs) (job ∷ jobs) (one, opened) (did, more) (here, rose) = (
+    feed_cause before now (s.faults r.source) (s.faults job.lines.source) job.stop (ap (λ (o : Reading F). s.faults o.source) one.unread ∙ one.sound) here (did.read.cause (ap (λ (o : Reading F). o.stop) one.unread)),
+    feeds_caused turns mux before now (f + 1) ps known rs jobs opened more rose,
+  )
 
 -- ---- the run
 
@@ -130,86 +110,114 @@ halted_none : {E X Y : Type 0} (told : Option Moment) (player : Result (Unit {0}
 halted_none told (Ok u) stop feeds who final sent last = last
 halted_none told (Err e) stop feeds who final sent last = last
 
-module _ {F S : Type 0} (left : F → Option (List ℕ)) (faults : F → ℕ) (is_same : F → F → Type 0) (leftS : S → Option (List ℕ)) (faultsS : S → ℕ) (is_sameS : S → S → Type 0) where
-  pub jobs_ran : (mux : Mux) (plan : LivePlan) (feeds : List (Reading F)) (control : Reading S) (text : List ℕ) (paths : List (List ℕ)) (files : Files) (before now : Option (List ℕ)) (air_before air_now feeds_before feeds_now : ℕ)
-      (end : LiveEnd F S) (source : S) (met : Status) → WatchedRan left faults is_same leftS faultsS is_sameS mux plan feeds control before now air_before air_now end → AreOpened left faults (Some files) paths feeds → control.stop ≡ None
-      → HasRead leftS text mux control → IfFailed faults (Rose feeds_before feeds_now) end.feeds.items → met ≡ live_status end.stop → source ≡ end.control.source → unserved mux plan.views ≡ None
-      → (end.stop ≢ Some live.Memory → IsTallyOf mux end.desk.entries end.tally)
-      → (met ≡ Memory) ⊎ Ran paths plan text files (leftS source) (read_faults (faultsS control.source) feeds_before) (read_faults (faultsS source) feeds_now) before now end.desk.entries (record { dones = end.dones; views = end.views; guide = end.heard; rate = mux.rate; tally = end.tally }) met
-  jobs_ran mux plan feeds control text paths files before now air_before air_now feeds_before feeds_now end source met ran opened going read rose is back served tallied =
-      let jobs = ran.did.feeds in
-      let stop = ran.did.control.stop in
-      let then = map command_of ran.did.final in
-      let tick = tick_of mux end.desk.entries plan.cycles in
-      let first : first_stop jobs ≡ feeds_stop None 1 (stops_back jobs) = first_is jobs ∙ feeds_first left faults is_same files end.desk.entries None 1 feeds jobs ran.commands.feeds_read in
-      let low : ran.did.control.pass.own.low ≡ 0 = ap (λ z. z.own.low) ran.did.control_did.did.1.gained in
-      let source_is : source ≡ ran.did.control.lines.source = back ∙ ap (λ (r : Reading S). r.source) ran.control_is in
-      let none : stop ≡ Some (edit.Read Failed) → then ≡ [] = (λ e. ap (map command_of) (halted_none tick ran.did.player.end (edit.Read Failed) (first_stop jobs) ran.did.control.pass.own.low ran.did.final ran.sent
-      (subst (λ (o : Option EditStop). LastMade (halts ran.did.player.end o (first_stop jobs)) tick ran.did.control.pass.own.low ran.did.final ran.sent) e ran.did.last))) in
-      elim (memory_or end.stop) [
-        | inl memory ↦ inl (is ∙ ap live_status memory)
-        | inr other ↦ inr (
-          mux,
-          ahead control read.read.rest,
-          read.read.reads,
-          record {
-            player = ran.did.player.end;
-            sent = ran.sent;
-            control_stop = stop;
-            feed_stops = stops_back jobs;
-            final = ran.did.final;
-            journal_is = record {
-              legal = ran.did.journal_did.legal;
-              control_did = ran.commands.control_read.told going read.read.rest read.read.told;
-              control_took = subst (λ (s : S). ControlTook text (leftS s) mux end.desk.entries stop) (sym source_is)
-                  (control_took leftS faultsS is_sameS text mux control ran.did.control.lines end.desk.entries then stop read (ran.commands.control_read.taken going) none);
-              player_did = ran.commands.player_swapped;
-              feeds_did = feeds_did left faults is_same files end.desk.entries 1 paths feeds jobs opened ran.commands.feeds_read;
-              others = λ k le. ran.commands.others k (omega (arith, le, opened_length left faults (Some files) paths feeds opened));
-              front = ran.did.journal_did.front;
-              ends = ran.did.journal_did.ends;
-            };
-            last = subst (λ (o : Option LiveStop). LastMade (halts ran.did.player.end stop o) tick 0 ran.did.final ran.sent) first
-                (subst (λ (k : ℕ). LastMade (halts ran.did.player.end stop (first_stop jobs)) tick k ran.did.final ran.sent) low ran.did.last);
-            failed = ran.did.failed;
-            status_is = is ∙ ap live_status (unless_wanting ran.wanting end.stop (run_stop ran.sent stop (first_stop jobs)) ran.stop_is other ∙ ap (run_stop ran.sent stop) first);
-            control_cause = subst (λ (s : S). HasReadCause (faultsS control.source) (faultsS s) stop) (sym source_is) (ran.did.control_did.cause going);
-            causes = feeds_caused left faults is_same files end.desk.entries ran.turns mux feeds_before feeds_now 1 paths (Some files) feeds jobs opened ran.did.feeds_ran (subst (λ (l : List (Reading F)). IfFailed faults (Rose feeds_before feeds_now) l) ran.feeds_are rose);
-            air_is = ran.did.air;
-            was_heard = λ sent knows. let heard = ran.whole sent knows other in record { taken = heard.taken; gave = heard.gave; lines = heard.lines; guide = heard.guide };
-            told = done_told end.heard end.stop met is ran.told;
-            served = served;
-            viewed = λ done. (end.viewers, ran.viewed (done_none end.stop (sym is ∙ done)));
-            unviewed = λ other. ran.unviewed (λ none. other (is ∙ ap live_status none));
-            rated = ap (rate_line mux.rate) (tallied other);
-          },
-        )
-      ]
+abbrev taken_of : ReportTaken → Taken
+taken_of air = record { before = air.old; now = air.new; faults_before = air.faults_old; faults_now = air.faults_new }
 
-  -- each fault has its cause
-  pub jobs_caused : (mux : Mux) (plan : LivePlan) (feeds : List (Reading F)) (control : Reading S) (paths : List (List ℕ)) (known : Option Files) (before now : Option (List ℕ)) (air_before air_now feeds_before feeds_now : ℕ)
-      (end : LiveEnd F S) (source : S) (met : Status) → WatchedRan left faults is_same leftS faultsS is_sameS mux plan feeds control before now air_before air_now end → AreOpened left faults known paths feeds → control.stop ≡ None
-      → IfFailed faults (Rose feeds_before feeds_now) end.feeds.items → met ≡ live_status end.stop → source ≡ end.control.source
-      → HasStatusCause (faultsS control.source) (faultsS source) feeds_before feeds_now air_before air_now met
-  jobs_caused mux plan feeds control paths known before now air_before air_now feeds_before feeds_now end source met ran opened going rose is back =
-      let jobs = ran.did.feeds in
-      let first : first_stop jobs ≡ feeds_stop None 1 (stops_back jobs) = first_is jobs ∙ feeds_first left faults is_same [] end.desk.entries None 1 feeds jobs ran.commands.feeds_read in
-      let caused = feeds_caused left faults is_same [] end.desk.entries ran.turns mux feeds_before feeds_now 1 paths known feeds jobs opened ran.did.feeds_ran (subst (λ (l : List (Reading F)). IfFailed faults (Rose feeds_before feeds_now) l) ran.feeds_are rose) in
-      let source_is : source ≡ ran.did.control.lines.source = back ∙ ap (λ (r : Reading S). r.source) ran.control_is in
-      let stop : end.stop ≡ watched_stop ran.wanting (run_stop ran.sent ran.did.control.stop (feeds_stop None 1 (stops_back jobs))) = ran.stop_is ∙ ap (λ o. watched_stop ran.wanting (run_stop ran.sent ran.did.control.stop o)) first in
-      subst (λ (s : Status). HasStatusCause (faultsS control.source) (faultsS source) feeds_before feeds_now air_before air_now s) (sym (is ∙ ap live_status stop))
-      (subst (λ (s : S). HasStatusCause (faultsS control.source) (faultsS s) feeds_before feeds_now air_before air_now (live_status (watched_stop ran.wanting (run_stop ran.sent ran.did.control.stop (feeds_stop None 1 (stops_back jobs)))))) (sym source_is)
-      (run_caused (faultsS control.source) (faultsS ran.did.control.lines.source) feeds_before feeds_now air_before air_now ran.wanting ran.sent ran.did.control.stop (stops_back jobs) ran.cause (ran.did.control_did.cause going) caused))
+-- what is reported of a run whose jobs came to this end
+abbrev pub told_of : {F S : Type 0} → Mux → LiveEnd F S → LiveResult
+told_of mux end = record {
+  desk = Some end.desk;
+  observed = record { dones = end.dones; views = end.views; guide = end.heard; rate = mux.rate; tally = end.tally };
+  met = live_status end.stop;
+}
 
-  -- with Done the control's lines were read to their end
-  pub jobs_ended : (mux : Mux) (plan : LivePlan) (feeds : List (Reading F)) (control : Reading S) (before now : Option (List ℕ)) (air_before air_now : ℕ) (end : LiveEnd F S) (source : S) (met : Status)
-      → WatchedRan left faults is_same leftS faultsS is_sameS mux plan feeds control before now air_before air_now end → met ≡ live_status end.stop → source ≡ end.control.source → met ≡ Done → IsAtEnd (leftS source)
-  jobs_ended mux plan feeds control before now air_before air_now end source met ran is back done =
-      subst (λ (s : S). IsAtEnd (leftS s)) (sym (back ∙ ap (λ (r : Reading S). r.source) ran.control_is))
-      (ran.did.control_did.end (done_control ran.wanting end.stop ran.sent ran.did.control.stop (first_stop ran.did.feeds) ran.stop_is (sym is ∙ done)))
+module _ {F S : Type 0} (st : Streams F S) (mux : Mux) (plan : LivePlan) (feeds : List (Reading F)) (control : Reading S) (paths : List (List ℕ)) (opener : OpenerAsked) (source : S) (air : ReportTaken)
+    (end : LiveEnd F S) (w : WatchedRan st mux plan feeds control (taken_of air) end) (read : ReadMux st.control.left st.control.faults st.control.same (fresh source) control (Ok mux))
+    (opened : AreOpened st.feeds.left st.feeds.faults opener.files paths feeds) (tried : HasTried opener.tried_old opener.tried_new paths)
+    (rose : IfFailed st.feeds.faults (Rose opener.read_old opener.read_new) end.feeds.items) (served : unserved mux plan.views ≡ None) where
+  abbrev now : S
+  now = end.control.source
 
-  -- the input is the one that was lent
-  pub jobs_same : (mux : Mux) (plan : LivePlan) (feeds : List (Reading F)) (control : Reading S) (before now : Option (List ℕ)) (air_before air_now : ℕ) (end : LiveEnd F S) (source : S)
-      → WatchedRan left faults is_same leftS faultsS is_sameS mux plan feeds control before now air_before air_now end → source ≡ end.control.source → is_sameS control.source source
-  jobs_same mux plan feeds control before now air_before air_now end source ran back =
-      subst (λ (s : S). is_sameS control.source s) (sym (back ∙ ap (λ (r : Reading S). r.source) ran.control_is)) ran.did.control_did.same
+  abbrev journal : List Entry
+  journal = end.desk.entries
+
+  abbrev stop : Option EditStop
+  stop = w.ran.did.control.stop
+
+  abbrev fed : Option LiveStop
+  fed = feeds_stop None 1 (stops_of w.ran.did.feeds)
+
+  going : control.stop ≡ None
+  going = ((mux_read st.control.left st.control.faults st.control.same (fresh source) control mux read).takes refl).looked.going
+
+  source_is : now ≡ w.ran.did.control.lines.source
+  source_is = ap (λ (r : Reading S). r.source) w.ran.control_is
+
+  stop_is : end.stop ≡ watched_stop w.wanting (run_stop w.jobs.sent stop fed)
+  stop_is = w.stop_is ∙ ap (watched_stop w.wanting) (w.ran.stop_is ∙ ap (λ o. run_stop w.jobs.sent o w.jobs.feed) w.ran.control_stop ∙ ap (run_stop w.jobs.sent stop) w.ran.feed_stop)
+
+  causes : HaveReadCauses opener.read_old opener.read_new (stops_of w.ran.did.feeds)
+  causes = feeds_caused st.feeds w.ran.turns mux opener.read_old opener.read_new 1 paths opener.files feeds w.ran.did.feeds opened w.ran.did.feeds_did (subst (IfFailed st.feeds.faults (Rose opener.read_old opener.read_new)) w.ran.feeds_are rose)
+
+  control_cause : HasReadCause (st.control.faults source) (st.control.faults now) stop
+  control_cause = subst (λ (s : S). HasReadCause (st.control.faults source) (st.control.faults s) stop) (sym source_is)
+      (read_from (st.control.faults source) (st.control.faults control.source) (st.control.faults w.ran.did.control.lines.source) stop read.reads.later (w.ran.did.control_did.cause going))
+
+  ran_of : (text : List ℕ) → st.control.left source ≡ Some text → (files : Files) → opener.files ≡ Some files → (end.stop ≡ Some live.Memory → ⊥)
+      → Ran (live_call paths plan text files opener (gave st.control.left st.control.faults source now) air) journal (told_of mux end).observed (live_status end.stop)
+  ran_of text tells files known other =
+      let has = has_read st.control.left st.control.faults st.control.same control source text mux tells read in
+      let opened_files = subst (λ (o : Option Files). AreOpened st.feeds.left st.feeds.faults o paths feeds) known opened in
+      let tick = tick_of mux journal plan.cycles in
+      let low : w.ran.did.control.pass.own.low ≡ 0 = ap (λ z. z.own.low) w.ran.did.control_did.did.1.gained in
+      let last = subst (λ (k : ℕ). LastMade (halts w.ran.did.player.end stop fed) tick k w.ran.did.final w.jobs.sent) low w.ran.did.last in
+      let none : stop ≡ Some (edit.Read Failed) → map command_of w.ran.did.final ≡ [] = (λ e. ap (map command_of) (halted_none tick w.ran.did.player.end (edit.Read Failed) fed 0 w.ran.did.final w.jobs.sent
+      (subst (λ (o : Option EditStop). LastMade (halts w.ran.did.player.end o fed) tick 0 w.ran.did.final w.jobs.sent) e last))) in (
+        mux,
+        ahead control has.read.rest,
+        has.read.reads,
+        record {
+          player = w.ran.did.player.end;
+          sent = w.jobs.sent;
+          control_stop = stop;
+          feed_stops = stops_of w.ran.did.feeds;
+          final = w.ran.did.final;
+          journal_is = record {
+            legal = w.ran.did.journal_did.legal;
+            control_did = w.ran.commands.control_read.told going has.read.rest has.read.told;
+            control_took = subst (λ (s : S). ControlTook text (st.control.left s) mux journal stop) (sym source_is)
+                (control_took st.control.left st.control.faults st.control.same text mux control w.ran.did.control.lines journal (map command_of w.ran.did.final) stop has (w.ran.commands.control_read.taken going) none);
+            player_did = w.ran.commands.player_swapped;
+            feeds_did = feeds_did st.feeds files journal 1 paths feeds w.ran.did.feeds opened_files w.ran.commands.feeds_read;
+            others = λ k le. w.ran.commands.others k (omega (arith, le, opened_length st.feeds.left st.feeds.faults (Some files) paths feeds opened_files));
+            front = w.ran.did.journal_did.front;
+            ends = w.ran.did.journal_did.ends;
+          };
+          last = last;
+          failed = w.ran.did.failed;
+          status_is = ap live_status (unless_wanting w.wanting end.stop (run_stop w.jobs.sent stop fed) stop_is other);
+          control_cause = control_cause;
+          causes = causes;
+          air_is = w.ran.did.air;
+          was_heard = λ sent knows. let heard = w.whole sent knows other in record { taken = heard.taken; gave = heard.gave; lines = heard.lines; guide = heard.guide };
+          told = done_told end.heard end.stop (live_status end.stop) refl w.told;
+          served = served;
+          viewed = λ done. (end.viewers, w.viewed (done_none end.stop done));
+          unviewed = λ other. w.unviewed (λ none. other (ap live_status none));
+          rated = ap (rate_line mux.rate) (w.tally other);
+        },
+      )
+
+  -- what a run met whose jobs came to this end
+  pub jobs_met : LiveMet paths plan opener (gave st.control.left st.control.faults source now) air (told_of mux end)
+  jobs_met =
+      let status = of_jobs end.stop in
+      record {
+        met = λ text tells files known. elim (memory_or end.stop) [
+          | inl memory ↦ inl (ap live_status memory)
+          | inr other ↦ inr (inr (ran_of text tells files known other, tried))
+        ];
+        known = status.known;
+        said = status.said;
+        asked_for = (length paths, subst (HasTried opener.tried_old opener.tried_new) (sym (take-length paths)) tried, status.all_asked (length paths));
+        end = λ done. subst (λ (s : S). IsAtEnd (st.control.left s)) (sym source_is) (w.ran.did.control_did.end (done_control w.wanting end.stop w.jobs.sent stop fed stop_is done));
+        cause = subst (λ (o : Option LiveStop). HasStatusCause (st.control.faults source) (st.control.faults now) opener.read_old opener.read_new air.faults_old air.faults_new (live_status o)) (sym stop_is)
+            (run_caused (st.control.faults source) (st.control.faults now) opener.read_old opener.read_new air.faults_old air.faults_new w.wanting w.jobs.sent stop (stops_of w.ran.did.feeds) w.ran.cause control_cause causes);
+        open_cause = λ f e. absurd (status.not_open f e);
+      }
+
+-- the input is the one that was lent
+pub watched_same : {F S : Type 0} (st : Streams F S) (mux : Mux) (plan : LivePlan) (feeds : List (Reading F)) (control : Reading S) (air : Taken) (end : LiveEnd F S) → WatchedRan st mux plan feeds control air end
+    → st.control.same control.source end.control.source
+watched_same {S = S} st mux plan feeds control air end w =
+    subst (λ (s : S). st.control.same control.source s) (sym (ap (λ (r : Reading S). r.source) w.ran.control_is)) w.ran.did.control_did.same

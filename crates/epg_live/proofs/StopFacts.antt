@@ -10,13 +10,13 @@ use Rattle.headend_jobs.specs.declared.live.LiveStop.TheVariants as live
 use Rattle.air_sending.specs.declared.send.SendStop.{SendStop}
 use Rattle.air_sending.specs.declared.send.SendStop.TheVariants as send
 use Rattle.air_sending.specs.OnAir.{HasAirCause}
-use Rattle.headend_jobs.specs.Live.{after, and_stop, control_stop, feed_stop, or_feed, run_stop, sent_stop}
+use Rattle.headend_jobs.specs.Stops.{after, and_stop, control_stop, feed_stop, feeds_stop, or_feed, run_stop, sent_stop}
 use Rattle.headend_live.specs.Watched.{watched_stop}
 use Rattle.guide_screen.specs.declared.need.Heard.{Heard}
-use Rattle.headend_live.proofs.Viewed.{no_stop}
+use Rattle.headend_live.proofs.Viewed.{and_none, no_stop}
 use Rattle.epg_report.specs.declared.status.Status.{Status}
 use Rattle.epg_report.specs.declared.status.Status.TheVariants.{Done}
-use Rattle.epg_live.specs.Stops.{HaveReadCauses, HasStatusCause, feeds_stop, live_status}
+use Rattle.epg_live.specs.Stops.{HaveReadCauses, HasStatusCause, live_status}
 
 -- what holds of either holds of the one that is taken
 after_keeps : (P : Option LiveStop → Type 0) (first : LiveStop) (b : Option LiveStop) → P (Some live.Memory) → P (Some first) → P (after first b)
@@ -30,19 +30,6 @@ and_keeps P (Some live.Memory) b m p q = m
 and_keeps P (Some live.Air) b m p q = after_keeps P live.Air b m p
 and_keeps P (Some (live.Control t)) b m p q = after_keeps P (live.Control t) b m p
 and_keeps P (Some (live.Feed g t)) b m p q = after_keeps P (live.Feed g t) b m p
-
--- where neither is taken there is neither
-after_some : (first : LiveStop) (b : Option LiveStop) → after first b ≡ None → ⊥
-after_some first None e = cc
-after_some first (Some live.Memory) e = cc
-after_some first (Some other) e = cc
-
-pub and_none : (a b : Option LiveStop) → and_stop a b ≡ None → (a ≡ None) × (b ≡ None)
-and_none None b e = (refl, e)
-and_none (Some live.Memory) b e = cc
-and_none (Some live.Air) b e = absurd (after_some live.Air b e)
-and_none (Some (live.Control t)) b e = absurd (after_some (live.Control t) b e)
-and_none (Some (live.Feed g t)) b e = absurd (after_some (live.Feed g t) b e)
 
 pub no_control : (stop : Option EditStop) → control_stop stop ≡ None → stop ≡ None
 no_control None e = refl

@@ -35,12 +35,15 @@ use Rattle.headend_jobs.specs.Callers.{CommandsAre, PlayerSwapped}
 use Rattle.journal_air.specs.Laws.{HasTypedEdits}
 use Rattle.journal_text.specs.Back.{IsOfLines, IsWritten}
 use Rattle.headend_jobs.specs.Live.{LastMade}
+use Rattle.headend_jobs.specs.Stops.{feeds_stop, halts}
 use Rattle.headend_jobs.specs.Ticking.{tick_by, tick_of, ticks_of, turns_by}
 use Rattle.headend_jobs.specs.Whole.{final_commands}
 use Rattle.headend_jobs.proofs.TypedJournals.{IsReadStep, journal_typed, journal_window}
 use Rattle.headend_jobs.proofs.WholeJournal.{of_all}
 use Rattle.mux_config.specs.Texts.{ahead_of}
-use Rattle.epg_live.specs.Runs.{CallerDid, FeedsDid, IsJournal}
+use Rattle.epg_report.specs.declared.status.Status.{Status}
+use Rattle.epg_live.specs.declared.reporting.Observed.{Observed}
+use Rattle.epg_live.specs.Runs.{CallerDid, FeedsDid, IsJournal, JobsRan, LiveCall}
 use Rattle.epg_live.proofs.ControlFacts.{controls_within}
 use Rattle.epg_live.proofs.ShapeFacts.{ahead_shaped}
 use Rattle.cycle_player.specs.Making.{IsToldTick}
@@ -160,21 +163,23 @@ module _ (P : Step → Type 0) (IsFed : ℕ → Type 0) (has : HasSteps P IsFed)
 
   -- ---- the journal
 
-  module _ (mux : Mux) (cycles : ℕ) (text : List ℕ) (left : Option (List ℕ)) (behind : Ahead) (paths : List (List ℕ)) (files : Files) (journal : List Entry)
-      (player : Result (Unit {0}) SendStop) (control_stop : Option EditStop) (feed_stops : List (Option EditStop)) (final : List Entry) (stopped : Bool) (sent : Result (Unit {0}) SendStop)
-      (is : IsJournal mux cycles text left behind paths files journal player control_stop feed_stops final)
-      (last : LastMade stopped (tick_of mux journal cycles) 0 final sent)
-      (fed : (g : ℕ) → g ≤ length paths → IsFed g) where
-    other_has : (k : ℕ) → 1 < k → (1 + length paths < k) ⊎ (k ≤ 1 + length paths) → CallerHas journal k
+  module _ (call : LiveCall) (mux : Mux) (behind : Ahead) (journal : List Entry) (observed : Observed) (status : Status) (ran : JobsRan call mux behind journal observed status)
+      (fed : (g : ℕ) → g ≤ length call.paths → IsFed g) where
+    abbrev is : IsJournal call mux behind journal ran.player ran.control_stop ran.feed_stops ran.final
+    is = ran.journal_is
+
+    other_has : (k : ℕ) → 1 < k → (1 + length call.paths < k) ⊎ (k ≤ 1 + length call.paths) → CallerHas journal k
     other_has k lt (inl far) = subst (AllByRecursion (λ (e : Entry). P e.step)) (sym (is.others k (omega (arith, far)))) tt
-    other_has k lt (inr near) = feed_has files journal 1 paths feed_stops is.feeds_did (λ g from to. fed g (omega (arith, to))) k lt near
+    other_has k lt (inr near) = feed_has call.files journal 1 call.paths ran.feed_stops is.feeds_did (λ g from to. fed g (omega (arith, to))) k lt near
 
     each_has : (k : ℕ) → CallerHas journal k
     each_has zero =
-        reader_has IsControlWithin journal 0 control_step (map command_of final) controls_have
-        (final_have stopped (tick_of mux journal cycles) final sent (tick_is_within mux journal cycles) last) (controls_ahead behind) control_stop (controls_within behind) is.control_did
-    each_has (suc zero) = player_has mux journal cycles player is.player_did
-    each_has (suc (suc k)) = other_has (suc (suc k)) (omega arith) (lt_or (1 + length paths) (suc (suc k)))
+        let told = tick_of mux journal call.plan.cycles in
+        reader_has IsControlWithin journal 0 control_step (map command_of ran.final) controls_have
+        (final_have (halts ran.player ran.control_stop (feeds_stop None 1 ran.feed_stops)) told ran.final ran.sent (tick_is_within mux journal call.plan.cycles) ran.last)
+        (controls_ahead behind) ran.control_stop (controls_within behind) is.control_did
+    each_has (suc zero) = player_has mux journal call.plan.cycles ran.player is.player_did
+    each_has (suc (suc k)) = other_has (suc (suc k)) (omega arith) (lt_or (1 + length call.paths) (suc (suc k)))
 
 -- ---- steps that were read
 
@@ -212,26 +217,23 @@ line_steps = record {
 
 -- ---- what is known of the entries
 
-module _ (mux : Mux) (cycles : ℕ) (text : List ℕ) (left : Option (List ℕ)) (behind : Ahead) (paths : List (List ℕ)) (files : Files) (journal : List Entry)
-    (player : Result (Unit {0}) SendStop) (control_stop : Option EditStop) (feed_stops : List (Option EditStop)) (final : List Entry) (stopped : Bool) (sent : Result (Unit {0}) SendStop)
-    (is : IsJournal mux cycles text left behind paths files journal player control_stop feed_stops final)
-    (last : LastMade stopped (tick_of mux journal cycles) 0 final sent) where
+module _ (call : LiveCall) (mux : Mux) (behind : Ahead) (journal : List Entry) (observed : Observed) (status : Status) (ran : JobsRan call mux behind journal observed status) where
   pub run_typed : HasTypedEdits journal × AllByRecursion (λ (e : Entry). IsStepInWindow e.step) journal
   run_typed =
-      let each = each_has IsReadStep (λ feed. Unit {0}) read_steps mux cycles text left behind paths files journal player control_stop feed_stops final stopped sent is last (λ g le. tt) in
+      let each = each_has IsReadStep (λ feed. Unit {0}) read_steps call mux behind journal observed status ran (λ g le. tt) in
       (journal_typed journal each, journal_window journal each)
 
-  run_lines : length paths ≤ 255 → AllByRecursion (λ (e : Entry). IsLineStep e.step) journal
+  run_lines : length call.paths ≤ 255 → AllByRecursion (λ (e : Entry). IsLineStep e.step) journal
   run_lines few =
       of_all (λ k e. IsLineStep e.step) journal
-      (each_has IsLineStep (λ feed. feed ≤ 255) line_steps mux cycles text left behind paths files journal player control_stop feed_stops final stopped sent is last (λ g le. omega (arith, few, le)))
+      (each_has IsLineStep (λ feed. feed ≤ 255) line_steps call mux behind journal observed status ran (λ g le. omega (arith, few, le)))
 
   -- the journal was read from lines, where it was written
-  pub run_of_lines : IsSound mux → length paths ≤ 255 → AllByRecursion IsWritten journal → AllByRecursion IsOfLines journal
+  pub run_of_lines : IsSound mux → length call.paths ≤ 255 → AllByRecursion IsWritten journal → AllByRecursion IsOfLines journal
   run_of_lines sound few written =
       let lines = run_lines few in
       let window : AreInWindow journal =
-      legal_window mux journal sound (all_map (λ (e : Entry). IsLineStep e.step) (λ (e : Entry). IsStepWithin e.step) (λ e line. line.within) journal lines) is.legal in
+      legal_window mux journal sound (all_map (λ (e : Entry). IsLineStep e.step) (λ (e : Entry). IsStepWithin e.step) (λ e line. line.within) journal lines) ran.journal_is.legal in
       all_two (λ (e : Entry). IsLineStep e.step × IsWritten e) IsEntryInWindow IsOfLines
       (λ e one window. record {
         who = one.1.0;

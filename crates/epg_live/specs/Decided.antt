@@ -12,12 +12,12 @@ use Rattle.input_lines.specs.declared.stop.EditStop.TheVariants as edit
 use Rattle.input_lines.specs.Ahead.{Ahead, Came, Found, Stop, Stopped, End, NoCommand, TooLong, Unread}
 use Rattle.script_lines.specs.Edits.{edits_ahead}
 use Rattle.desk_hall.specs.Reads.{controls_ahead}
-use Rattle.headend_jobs.specs.Live.{run_stop}
+use Rattle.headend_jobs.specs.Stops.{feeds_stop, run_stop}
 use Rattle.epg_report.specs.declared.status.Status.{Status}
 use Rattle.epg_report.specs.declared.status.Status.TheVariants.{BadMux, TooLong as PastLimit, NoView}
 use Rattle.epg_report.specs.declared.status.Origin.TheVariants.{Input}
 use Rattle.mux_config.specs.Texts.{ahead_of, described}
-use Rattle.epg_live.specs.Stops.{feeds_stop, live_status}
+use Rattle.epg_live.specs.Stops.{live_status}
 use Rattle.epg_live.specs.Views.{unserved}
 
 -- ---- the status

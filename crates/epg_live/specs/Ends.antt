@@ -1,7 +1,5 @@
 -- What a run of `live` leaves.
 use Rattle.std.specs.Prelude.{◌≡◌, ◌⊎◌, ◌≤◌, ℕ, List, [], ◌++◌, length, take, flat_map, Option, Some, None}
-use Rattle.headend_live.specs.declared.watched.LivePlan.{LivePlan}
-use Rattle.si_causes.specs.Opening.{Files}
 use Rattle.journal_model.specs.declared.step.Entry.{Entry}
 use Rattle.desk_core.specs.Desks.{DeskState}
 use Rattle.journal_text.specs.Entries.{journal_text}
@@ -15,10 +13,9 @@ use Rattle.epg_report.specs.declared.status.Status.{Status}
 use Rattle.epg_report.specs.declared.status.Status.TheVariants.{BadMux, OpenFault, ReadFault, TooLong, Memory, NoView}
 use Rattle.epg_report.specs.declared.status.Origin.TheVariants.{Input}
 use Rattle.epg_live.specs.declared.reporting.Observed.{Observed}
-use Rattle.epg_live.specs.declared.reporting.LiveResult.{LiveResult}
 use Rattle.epg_live.specs.Opened.{HasTried}
 use Rattle.epg_live.specs.Views.{views_text}
-use Rattle.epg_live.specs.Runs.{NoJobs, Ran, ReadFaults, nothing_observed, rate_text}
+use Rattle.epg_live.specs.Runs.{LiveCall, NoJobs, Ran, rate_text}
 
 -- ---- the report
 
@@ -44,22 +41,20 @@ run_text journal observed = journal_text journal ++ observed_text observed
 -- ---- the whole run
 
 -- what was met, and done until then: want of memory; or no job started; or they ran
-abbrev pub HasMet : List (List ℕ) → LivePlan → List ℕ → Files → Option (List ℕ) → ReadFaults → ReadFaults → Option (List ℕ) → Option (List ℕ) → List Entry → Observed → Status → Type 0
-HasMet paths plan text files left faults_before faults_now before now journal observed met =
-    (met ≡ Memory) ⊎ (NoJobs plan text left before now journal observed met ⊎ Ran paths plan text files left faults_before faults_now before now journal observed met)
+abbrev pub HasMet : LiveCall → List Entry → Observed → Status → Type 0
+HasMet call journal observed met = (met ≡ Memory) ⊎ (NoJobs call journal observed met ⊎ Ran call journal observed met)
 
 -- how many paths were asked for where no job started: those up to one that was not opened, and else none
 abbrev pub asked_before : Status → ℕ
 asked_before (OpenFault f) = f
 asked_before status = 0
 
--- what was met, and which of these paths an opener was asked for: all where jobs ran, and else the first `asked_before`
-abbrev pub HasMetAsking : List (List ℕ) → LivePlan → List ℕ → Files → Option (List ℕ) → ReadFaults → ReadFaults → Option (List (List ℕ)) → Option (List (List ℕ))
-    → Option (List ℕ) → Option (List ℕ) → List Entry → Observed → Status → Type 0
-HasMetAsking paths plan text files left faults_before faults_now tried_before tried_now before now journal observed met =
+-- what was met, and which of the paths an opener was asked for: all where jobs ran, and else the first `asked_before`
+abbrev pub HasMetAsking : LiveCall → Option (List (List ℕ)) → Option (List (List ℕ)) → List Entry → Observed → Status → Type 0
+HasMetAsking call tried_before tried_now journal observed met =
     (met ≡ Memory)
-    ⊎ ((NoJobs plan text left before now journal observed met × HasTried tried_before tried_now (take (asked_before met) paths))
-    ⊎ (Ran paths plan text files left faults_before faults_now before now journal observed met × HasTried tried_before tried_now paths))
+    ⊎ ((NoJobs call journal observed met × HasTried tried_before tried_now (take (asked_before met) call.paths))
+    ⊎ (Ran call journal observed met × HasTried tried_before tried_now call.paths))
 
 -- ---- inside a run
 
@@ -80,8 +75,3 @@ AskedFor n k status = k ≡ n
 -- An opener was asked for the first of these paths, in order: all of them where jobs started.
 abbrev pub HasAsked : List (List ℕ) → Option (List (List ℕ)) → Option (List (List ℕ)) → Status → Type 0
 HasAsked paths old new status = (k : ℕ) × HasTried old new (take k paths) × AskedFor (length paths) k status
-
--- nothing has run
-pub record IsBlank (run : LiveResult) : Type 0 where
-  pub desk : run.desk ≡ None
-  pub observed : run.observed ≡ nothing_observed

@@ -16,7 +16,7 @@ use Rattle.epg_report.specs.Told.{OpenerAsked, ReportTaken, SourceGave}
 use Rattle.epg_live.specs.declared.reporting.Observed.{Observed}
 use Rattle.mux_config.specs.Texts.{described}
 use Rattle.epg_report.specs.Ends.{ReportEnds}
-use Rattle.epg_live.specs.Runs.{read_faults}
+use Rattle.epg_live.specs.Runs.{live_call}
 use Rattle.epg_live.specs.Ends.{HasMetAsking, run_text}
 use Rattle.epg_live.specs.Reports.{IsScript}
 
@@ -38,8 +38,7 @@ pub record LeftLive (paths : List (List ℕ)) (plan : LivePlan) (text : List ℕ
   pub met : Status
   -- the journal has just the commands of each caller, each once, in order, with the replies of a desk of one thread; what was sent is its air;
   -- the opener was asked for all paths where jobs ran, and for none where the description ended the run
-  pub ran : HasMetAsking paths plan text files input.new (read_faults input.faults_old opener.read_old) (read_faults input.faults_new opener.read_new)
-      opener.tried_old opener.tried_new air.old air.new journal observed met
+  pub ran : HasMetAsking (live_call paths plan text files opener input air) opener.tried_old opener.tried_new journal observed met
   -- the report is the text of the journal, of the completions, of the views and of the guide, then
   -- the line on the bit rate, and the line of the fault, where there are such lines
   pub reported : ReportEnds met (run_text journal observed) report status

@@ -1,10 +1,11 @@
 -- The files of the feeds: what an opener was asked for, the readers that it gave, and how they were closed.
-use Rattle.std.specs.Prelude.{◌≡◌, ℕ, ◌<◌, ◌≤◌, List, [], ◌∷◌, ◌++◌, Option, None, Some, Ok, Err, Result}
+use Rattle.std.specs.Prelude.{◌≡◌, ℕ, ◌<◌, ◌≤◌, List, [], ◌∷◌, ◌++◌, length, take, Option, None, Some}
 use Rattle.si_causes.specs.Causes.{Rose}
 use Rattle.si_causes.specs.Opening.{Files, GivesFile}
 use Rattle.si_causes.specs.Reading.{Reading, fresh}
-use Rattle.epg_live.specs.declared.feeds.OpenStop.{OpenStop}
-use Rattle.epg_live.specs.declared.feeds.OpenStop.TheVariants.{Feed, Memory}
+use Rattle.epg_report.specs.declared.status.Status.{Status}
+use Rattle.epg_report.specs.declared.status.Status.TheVariants.{OpenFault, Memory}
+use Rattle.epg_report.specs.Told.{OpenerAsked}
 
 -- The list of the paths asked for grew by these. An opener that found no room for one tells the list no more.
 abbrev pub HasTried : Option (List (List ℕ)) → Option (List (List ℕ)) → List (List ℕ) → Type 0
@@ -30,16 +31,18 @@ AreOpened left faults files (path ∷ paths) (reader ∷ readers) = IsOpened lef
 abbrev pub Adds : {S : Type 0} → (S → Option (List ℕ)) → (S → ℕ) → Option Files → List ℕ → List (Reading S) → List (Reading S) → Type 0
 Adds {S} left faults files path old new = (reader : Reading S) × IsOpened left faults files path reader × (new ≡ old ++ reader ∷ [])
 
--- of n paths the first k were asked for: all; or up to that of the feed whose file was not opened; or as far as memory was there
-abbrev pub OpenedTo : {T : Type 0} → ℕ → ℕ → Result T OpenStop → Type 0
-OpenedTo k n (Ok feeds) = k ≡ n
-OpenedTo k n (Err (Feed f)) = (k ≡ f) × (1 ≤ f) × (f ≤ n)
-OpenedTo k n (Err Memory) = Unit {0}
+-- All of these paths were opened, in order, and each has its reader.
+pub record HasOpened {S : Type 0} (left : S → Option (List ℕ)) (faults : S → ℕ) (paths : List (List ℕ)) (opener : OpenerAsked)
+    (readers : List (Reading S)) : Type 0 where
+  pub opened : AreOpened left faults opener.files paths readers
+  pub tried : HasTried opener.tried_old opener.tried_new paths
 
--- a path that was not opened has its cause
-abbrev pub HasOpenCause : ℕ → ℕ → OpenStop → Type 0
-HasOpenCause before now (Feed f) = Rose before now
-HasOpenCause before now Memory = Unit {0}
+-- Why not all of them are: one was not opened, and none after it was asked for; or memory was wanting.
+abbrev pub NotOpened : List (List ℕ) → OpenerAsked → Status → Type 0
+NotOpened paths opener (OpenFault f) =
+    (1 ≤ f) × (f ≤ length paths) × HasTried opener.tried_old opener.tried_new (take f paths) × Rose opener.faults_old opener.faults_new
+NotOpened paths opener Memory = (k : ℕ) × HasTried opener.tried_old opener.tried_new (take k paths)
+NotOpened paths opener status = ⊥
 
 -- ---- closing
 

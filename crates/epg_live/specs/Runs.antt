@@ -25,7 +25,8 @@ use Rattle.air_monitor.specs.Heard.{lines_of_air}
 use Rattle.air_sending.specs.declared.send.SendStop.{SendStop}
 use Rattle.headend_jobs.specs.Callers.{CommandsAre, PlayerSwapped}
 use Rattle.air_sending.specs.AirOf.{AirDid}
-use Rattle.headend_jobs.specs.Live.{LastMade, halts, run_stop}
+use Rattle.headend_jobs.specs.Live.{LastMade}
+use Rattle.headend_jobs.specs.Stops.{feeds_stop, halts, run_stop}
 use Rattle.headend_jobs.specs.Posting.{posts_of}
 use Rattle.headend_jobs.specs.Ticking.{tick_of}
 use Rattle.headend_live.specs.Watched.{guide_of_air}
@@ -34,9 +35,47 @@ use Rattle.epg_report.specs.Rates.{rate_line, rate_lines}
 use Rattle.epg_report.specs.declared.status.Status.{Status}
 use Rattle.epg_report.specs.declared.status.Status.TheVariants.{Done, BadMux, TooLong, OpenFault, ReadFault, NoView}
 use Rattle.epg_report.specs.declared.status.Origin.TheVariants.{Input}
+use Rattle.epg_report.specs.Told.{OpenerAsked, ReportTaken, SourceGave}
 use Rattle.epg_live.specs.declared.reporting.Observed.{Observed}
 use Rattle.epg_live.specs.Views.{HaveViews, unserved}
-use Rattle.epg_live.specs.Stops.{HaveReadCauses, feeds_stop, live_status}
+use Rattle.epg_live.specs.Stops.{HaveReadCauses, live_status}
+
+-- ---- a call
+
+-- how many reads failed: of the input, and of the files of the feeds
+pub record ReadFaults : Type 0 where
+  pub input : ℕ
+  pub feeds : ℕ
+
+abbrev pub read_faults : ℕ → ℕ → ReadFaults
+read_faults input feeds = record { input = input; feeds = feeds }
+
+-- A call of `live` whose texts are known: the paths of its feeds, what its words say beside them, the text of its input, the files of
+-- its opener; what is left of that text, how many reads had failed before it and after it, and what its air had taken.
+pub record LiveCall : Type 0 where
+  pub paths : List (List ℕ)
+  pub plan : LivePlan
+  pub text : List ℕ
+  pub files : Files
+  pub left : Option (List ℕ)
+  pub faults_before : ReadFaults
+  pub faults_now : ReadFaults
+  pub before : Option (List ℕ)
+  pub now : Option (List ℕ)
+
+-- the call with this opener, this input and this air
+abbrev pub live_call : List (List ℕ) → LivePlan → List ℕ → Files → OpenerAsked → SourceGave → ReportTaken → LiveCall
+live_call paths plan text files opener input air = record {
+  paths = paths;
+  plan = plan;
+  text = text;
+  files = files;
+  left = input.new;
+  faults_before = read_faults input.faults_old opener.read_old;
+  faults_now = read_faults input.faults_new opener.read_new;
+  before = air.old;
+  now = air.new;
+}
 
 -- ---- what was asked for
 
@@ -87,14 +126,14 @@ rate_text observed = rate_line observed.rate observed.tally
 -- with the reply of a desk of one thread (`legal`), and no one else's. Caller 0 is the control.
 -- Caller 1 is the player: at a bit rate it makes a tick before each swap, at the moment that the
 -- clock of the air tells then (`PlayerSwapped`). `final` is what the control made after all jobs.
-pub record IsJournal (mux : Mux) (cycles : ℕ) (text : List ℕ) (left : Option (List ℕ)) (behind : Ahead) (paths : List (List ℕ)) (files : Files) (journal : List Entry)
+pub record IsJournal (call : LiveCall) (mux : Mux) (behind : Ahead) (journal : List Entry)
     (player : Result (Unit {0}) SendStop) (control_stop : Option EditStop) (feed_stops : List (Option EditStop)) (final : List Entry) : Type 0 where
   pub legal : Legal mux journal
   pub control_did : CallerDid journal 0 control_step (controls_ahead behind) (map command_of final) control_stop
-  pub control_took : ControlTook text left mux journal control_stop
-  pub player_did : PlayerSwapped mux journal cycles player
-  pub feeds_did : FeedsDid files journal 1 paths feed_stops
-  pub others : (k : ℕ) → length paths + 2 ≤ k → entries_of caller_of k journal ≡ []
+  pub control_took : ControlTook call.text call.left mux journal control_stop
+  pub player_did : PlayerSwapped mux journal call.plan.cycles player
+  pub feeds_did : FeedsDid call.files journal 1 call.paths feed_stops
+  pub others : (k : ℕ) → length call.paths + 2 ≤ k → entries_of caller_of k journal ≡ []
   pub front : List Entry
   pub ends : journal ≡ front ++ final
 
@@ -106,14 +145,6 @@ pub record WasHeard (join : ℕ) (before now : Option (List ℕ)) (observed : Ob
   pub lines : observed.dones ≡ lines_of_air join taken
   pub guide : IfSome observed.guide (λ (h : Heard). h ≡ guide_of_air join taken)
 
--- how many reads failed: of the input, and of the files of the feeds
-pub record ReadFaults : Type 0 where
-  pub input : ℕ
-  pub feeds : ℕ
-
-abbrev pub read_faults : ℕ → ℕ → ReadFaults
-read_faults input feeds = record { input = input; feeds = feeds }
-
 -- The jobs started, and all have ended. The status is that of the first stop in the order air,
 -- control, feeds by number; Done exactly where there is none, and then the control's publish,
 -- swap and swap end the journal, at a bit rate with a tick before them (`last`). `sent` says how
@@ -122,33 +153,31 @@ read_faults input feeds = record { input = input; feeds = feeds }
 -- (`control_cause`), and a feed only where the opener's count of read faults rose (`causes`). A
 -- guide is told exactly with Done (`told`); what it and the completions are is known where the
 -- air tells its bytes. The line on the bit rate is that of the cycles of the journal (`rated`).
-pub record JobsRan (mux : Mux) (plan : LivePlan) (text : List ℕ) (left : Option (List ℕ)) (behind : Ahead) (paths : List (List ℕ)) (files : Files) (faults_before faults_now : ReadFaults) (before now : Option (List ℕ))
-    (journal : List Entry) (observed : Observed) (status : Status) : Type 0 where
+pub record JobsRan (call : LiveCall) (mux : Mux) (behind : Ahead) (journal : List Entry) (observed : Observed) (status : Status) : Type 0 where
   pub player : Result (Unit {0}) SendStop
   pub sent : Result (Unit {0}) SendStop
   pub control_stop : Option EditStop
   pub feed_stops : List (Option EditStop)
   pub final : List Entry
-  pub journal_is : IsJournal mux plan.cycles text left behind paths files journal player control_stop feed_stops final
+  pub journal_is : IsJournal call mux behind journal player control_stop feed_stops final
   pub last : LastMade (halts player control_stop (feeds_stop None 1 feed_stops))
-      (tick_of mux journal plan.cycles) 0 final sent
+      (tick_of mux journal call.plan.cycles) 0 final sent
   pub failed : (stop : SendStop) → player ≡ Err stop → sent ≡ Err stop
   pub status_is : status ≡ live_status (run_stop sent control_stop (feeds_stop None 1 feed_stops))
-  pub control_cause : HasReadCause faults_before.input faults_now.input control_stop
-  pub causes : HaveReadCauses faults_before.feeds faults_now.feeds feed_stops
-  pub air_is : AirDid mux journal before now sent
-  pub was_heard : (sent : List ℕ) → before ≡ Some sent → WasHeard plan.join before now observed
+  pub control_cause : HasReadCause call.faults_before.input call.faults_now.input control_stop
+  pub causes : HaveReadCauses call.faults_before.feeds call.faults_now.feeds feed_stops
+  pub air_is : AirDid mux journal call.before call.now sent
+  pub was_heard : (sent : List ℕ) → call.before ≡ Some sent → WasHeard call.plan.join call.before call.now observed
   pub told : IsSome observed.guide ↔ (status ≡ Done)
-  pub served : unserved mux plan.views ≡ None
-  pub viewed : status ≡ Done → HaveViews (posts_of mux journal) (plan.cycles + 1) plan.views observed.views
+  pub served : unserved mux call.plan.views ≡ None
+  pub viewed : status ≡ Done → HaveViews (posts_of mux journal) (call.plan.cycles + 1) call.plan.views observed.views
   pub unviewed : status ≢ Done → observed.views ≡ []
   pub rated : rate_text observed ≡ rate_lines mux journal
 
 -- jobs ran over the multiplex of the text
-abbrev pub Ran : List (List ℕ) → LivePlan → List ℕ → Files → Option (List ℕ) → ReadFaults → ReadFaults → Option (List ℕ) → Option (List ℕ) → List Entry → Observed → Status → Type 0
-Ran paths plan text files left faults_before faults_now before now journal observed met =
-    (mux : Mux) × (behind : Ahead) × (described text ≡ Came (Ok mux) behind)
-    × JobsRan mux plan text left behind paths files faults_before faults_now before now journal observed met
+abbrev pub Ran : LiveCall → List Entry → Observed → Status → Type 0
+Ran call journal observed met =
+    (mux : Mux) × (behind : Ahead) × (described call.text ≡ Came (Ok mux) behind) × JobsRan call mux behind journal observed met
 
 -- a reader behind the description that it read of the text of its source
 pub record HasRead {S : Type 0} (left : S → Option (List ℕ)) (text : List ℕ) (mux : Mux) (reader : Reading S) : Type 0 where
@@ -168,18 +197,19 @@ pub record IsUnread (text : List ℕ) (left : Option (List ℕ)) : Type 0 where
   pub unended : described_taken taken ≡ Stopped Unread
 
 -- why no job started
-abbrev pub EndsBefore : LivePlan → List ℕ → Option (List ℕ) → Status → Type 0
-EndsBefore plan text left (BadMux fault) = fault_in (described text) ≡ Some fault
-EndsBefore plan text left (TooLong Input) = described text ≡ Stopped Exceeded
-EndsBefore plan text left (ReadFault Input) = IsUnread text left
-EndsBefore plan text left (NoView service) = (mux : Mux) × (behind : Ahead) × (described text ≡ Came (Ok mux) behind) × (unserved mux plan.views ≡ Some service)
-EndsBefore plan text left (OpenFault f) =
-    (mux : Mux) × (behind : Ahead) × (described text ≡ Came (Ok mux) behind) × (unserved mux plan.views ≡ None)
-EndsBefore plan text left status = ⊥
+abbrev pub EndsBefore : LiveCall → Status → Type 0
+EndsBefore call (BadMux fault) = fault_in (described call.text) ≡ Some fault
+EndsBefore call (TooLong Input) = described call.text ≡ Stopped Exceeded
+EndsBefore call (ReadFault Input) = IsUnread call.text call.left
+EndsBefore call (NoView service) =
+    (mux : Mux) × (behind : Ahead) × (described call.text ≡ Came (Ok mux) behind) × (unserved mux call.plan.views ≡ Some service)
+EndsBefore call (OpenFault f) =
+    (mux : Mux) × (behind : Ahead) × (described call.text ≡ Came (Ok mux) behind) × (unserved mux call.plan.views ≡ None)
+EndsBefore call status = ⊥
 
 -- no job started: nothing was sent
-pub record NoJobs (plan : LivePlan) (text : List ℕ) (left : Option (List ℕ)) (before now : Option (List ℕ)) (journal : List Entry) (observed : Observed) (status : Status) : Type 0 where
-  pub why : EndsBefore plan text left status
+pub record NoJobs (call : LiveCall) (journal : List Entry) (observed : Observed) (status : Status) : Type 0 where
+  pub why : EndsBefore call status
   pub journal_is : journal ≡ []
   pub observed_is : observed ≡ nothing_observed
-  pub sent : now ≡ before
+  pub sent : call.now ≡ call.before

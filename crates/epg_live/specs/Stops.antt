@@ -1,5 +1,5 @@
 -- The statuses of stops.
-use Rattle.std.specs.Prelude.{ℕ, ◌+◌, List, [], ◌∷◌, Option, Some, None}
+use Rattle.std.specs.Prelude.{ℕ, List, [], ◌∷◌, Option, Some, None}
 use Rattle.si_causes.specs.declared.stop.ReadStop.TheVariants.{Failed, TooLong as Overlong}
 use Rattle.mux_config.specs.declared.stop.MuxStop.{MuxStop}
 use Rattle.mux_config.specs.declared.stop.MuxStop.TheVariants as mux
@@ -9,13 +9,10 @@ use Rattle.si_causes.specs.Causes.{Rose}
 use Rattle.desk_hall.specs.Reads.{HasReadCause}
 use Rattle.headend_jobs.specs.declared.live.LiveStop.{LiveStop}
 use Rattle.headend_jobs.specs.declared.live.LiveStop.TheVariants as live
-use Rattle.headend_jobs.specs.Live.{or_feed}
 use Rattle.epg_report.specs.declared.status.Status.{Status}
-use Rattle.epg_report.specs.declared.status.Status.TheVariants.{Done, Usage, BadScript, Disagrees, BadMux, BadFeed, BadStream, TooLong, OpenFault, ReadFault, WriteFault, Memory, NoView, NotAir, Short, TooMany, BadCheckpoint}
+use Rattle.epg_report.specs.declared.status.Status.TheVariants.{Done, Usage, BadScript, Disagrees, BadMux, BadFeed, BadStream, TooLong, ReadFault, WriteFault, Memory, NotAir, Short, TooMany, BadCheckpoint}
 use Rattle.epg_report.specs.declared.status.Origin.TheVariants.{Input, Feed, Recording}
 use Rattle.epg_report.specs.declared.status.Outlet.TheVariants.{Air, Report}
-use Rattle.epg_live.specs.declared.feeds.OpenStop.{OpenStop}
-use Rattle.epg_live.specs.declared.feeds.OpenStop.TheVariants as opening
 
 -- where the description of the multiplex was not read
 abbrev pub mux_status : MuxStop → Status
@@ -23,11 +20,6 @@ mux_status (mux.Fault fault) = BadMux fault
 mux_status (mux.Read Failed) = ReadFault Input
 mux_status (mux.Read Overlong) = TooLong Input
 mux_status mux.Memory = Memory
-
--- where the files of the feeds were not opened
-abbrev pub open_status : OpenStop → Status
-open_status (opening.Feed f) = OpenFault f
-open_status opening.Memory = Memory
 
 -- where the control stopped, and where a feed did
 abbrev pub control_status : EditStop → Status
@@ -49,11 +41,6 @@ live_status (Some live.Air) = WriteFault Air
 live_status (Some (live.Control stop)) = control_status stop
 live_status (Some (live.Feed f stop)) = feed_status f stop
 live_status (Some live.Memory) = Memory
-
--- the first of these stops of feeds, of which the first has number n, behind what there was before; want of memory goes before all
-abbrev pub feeds_stop : Option LiveStop → ℕ → List (Option EditStop) → Option LiveStop
-feeds_stop first n [] = first
-feeds_stop first n (stop ∷ stops) = feeds_stop (or_feed first n stop) (n + 1) stops
 
 -- each of these stops that is a failed read has its cause
 abbrev pub HaveReadCauses : ℕ → ℕ → List (Option EditStop) → Type 0
@@ -85,10 +72,3 @@ IsOfLive status = Unit {0}
 abbrev pub IsMet : Status → Type 0
 IsMet (WriteFault Report) = ⊥
 IsMet status = IsOfLive status
-
--- and those of a run whose jobs started
-abbrev pub IsOfRun : Status → Type 0
-IsOfRun (BadMux fault) = ⊥
-IsOfRun (OpenFault f) = ⊥
-IsOfRun (NoView service) = ⊥
-IsOfRun status = IsMet status

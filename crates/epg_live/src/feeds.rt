@@ -1,20 +1,15 @@
 // The files of the feeds.
-ghost use Rattle.std.specs.Prelude.{◌≡◌, ◌≤◌, ◌<◌, ℕ, IfErr, IfOk, Ok, Err, true, false, length, take};
+ghost use Rattle.std.specs.Prelude.{◌≡◌, ◌≤◌, ◌<◌, IfErr, IfOk, Ok, true, false, length};
 ghost use Rattle.si_causes.specs.Causes.{Rose};
 ghost use Rattle.si_causes.specs.Opening.{Tries};
 ghost use Rattle.command_words.specs.Commands.{texts};
-ghost use Rattle.epg_live.specs.Opened.{Adds, AreOpened, Closes, HasOpenCause, HasTried, OpenedTo};
+ghost use Rattle.epg_report.specs.Told.{asked};
+ghost use Rattle.epg_live.specs.Opened.{Adds, Closes, HasOpened, NotOpened};
 
+use epg_report::Status;
 use headend_live::Readers;
 use si_causes::{LineReader, Opener};
 use std::alloc::{AllocError, Global};
-
-/// Why the files of the feeds are not open: that of this feed was not opened, or want of memory.
-#[derive(Clone, Copy, PartialEq, Eq)]
-pub(crate) enum OpenStop {
-    Feed(u8),
-    Memory,
-}
 
 // Opens the file of this path and adds a reader of it, or tells that it was not opened.
 fn open_feed<O: Opener>(
@@ -23,7 +18,8 @@ fn open_feed<O: Opener>(
     path: &str,
     feeds: &mut Readers<O::From>,
 ) -> Result<bool, AllocError>
-    ensures opened { result ≡ Ok true → Adds O.From.left O.From.faults (O.files opener.old) path.now feeds.old.items feeds.new.items }
+    ensures opened { result ≡ Ok true
+        → Adds O.From.left O.From.faults (O.files opener.old) path.now feeds.old.items feeds.new.items }
     ensures failed { result ≡ Ok false → Rose (O.faults opener.old) (O.faults opener.new) }
     ensures kept { result ≡ Ok false → feeds.new.items ≡ feeds.old.items }
     ensures tried { Tries (O.tried opener.old) (O.tried opener.new) path.now }
@@ -58,12 +54,12 @@ pub(crate) fn open_feeds<O: Opener>(
     alloc: Global,
     opener: &mut O,
     paths: &[String],
-) -> Result<Readers<O::From>, OpenStop>
+) -> Result<Readers<O::From>, Status>
     requires few { length paths.now ≤ 16 }
-    ensures opened { IfOk result (λ feeds. AreOpened O.From.left O.From.faults (O.files opener.old) (texts paths.now) feeds.items) }
-    ensures tried { (k : ℕ) × HasTried (O.tried opener.old) (O.tried opener.new) (take k (texts paths.now)) × OpenedTo k (length paths.now) result }
-    ensures failed { IfErr result (λ stop. HasOpenCause (O.faults opener.old) (O.faults opener.new) stop) }
-    ensures files { O.files opener.new ≡ O.files opener.old }
+    ensures opened { IfOk result (λ feeds. HasOpened O.From.left O.From.faults (texts paths.now)
+        (asked O.files O.tried O.faults O.read_faults opener.old opener.new) feeds.items) }
+    ensures stopped { IfErr result (λ stop. NotOpened (texts paths.now)
+        (asked O.files O.tried O.faults O.read_faults opener.old opener.new) stop) }
     ensures read_faults { O.read_faults opener.new ≡ O.read_faults opener.old }
 {
     let mut feeds = Vec::new(alloc);
@@ -71,11 +67,11 @@ pub(crate) fn open_feeds<O: Opener>(
     for path in paths {
         feed += 1;
         let Ok(opened) = open_feed(alloc, opener, path.as_str(), &mut feeds) else {
-            return Err(OpenStop::Memory);
+            return Err(Status::Memory);
         };
         if !opened {
             close_feeds(opener, feeds);
-            return Err(OpenStop::Feed(feed));
+            return Err(Status::OpenFault(feed));
         }
     }
     Ok(feeds)

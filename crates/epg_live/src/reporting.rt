@@ -8,6 +8,7 @@ ghost use Rattle.epg_report.specs.Texts.{CanBeSaid, fault_lines};
 ghost use Rattle.epg_report.specs.Told.{told};
 ghost use Rattle.epg_report.specs.Ends.{ReportEnds};
 ghost use Rattle.epg_live.specs.Ends.{done_text, entries_of, observed_text, line_done, run_text};
+ghost use Rattle.epg_live.specs.Met.{none_ran};
 ghost use Rattle.epg_live.specs.Runs.{nothing_observed};
 ghost use Rattle.epg_live.specs.Views.{id_text, view_head, view_text, views_text};
 
@@ -54,6 +55,19 @@ pub struct LiveResult {
     pub desk: Option<Desk>,
     pub observed: Observed,
     pub met: Status,
+}
+
+impl LiveResult {
+    /// No job started, for this reason. It takes no memory.
+    pub(crate) fn none(alloc: Global, met: Status) -> LiveResult
+        ensures { result ≡ none_ran met }
+    {
+        LiveResult {
+            desk: None,
+            observed: Observed::nothing(alloc),
+            met,
+        }
+    }
 }
 
 fn done_of(line: &DoneLine) -> DoneKey
@@ -156,7 +170,9 @@ fn report_of(alloc: Global, run: &LiveResult) -> Result<Vec<u8>, AllocError>
 /// Reports what ran, and says how the run ends. A report that fails changes the status of a run without a fault alone.
 pub(crate) fn finish<R: Sink>(alloc: Global, run: &LiveResult, report: &mut R) -> Status
     requires { CanBeSaid run.now.met }
-    ensures ends { (result ≡ Status.Memory) ⊎ ReportEnds run.now.met (run_text (entries_of run.now.desk) run.now.observed) (told R.written R.faults report.old report.new) result }
+    ensures ends { (result ≡ Status.Memory)
+        ⊎ ReportEnds run.now.met (run_text (entries_of run.now.desk) run.now.observed)
+        (told R.written R.faults report.old report.new) result }
     ensures written { (result ≡ Status.Memory) ⊎ AllByRecursion IsWritten (entries_of run.now.desk) }
 {
     let Ok(text) = report_of(alloc, run) else {

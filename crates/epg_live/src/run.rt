@@ -1,20 +1,17 @@
 // A run of feeds, control and player over files.
-ghost use Rattle.std.specs.Prelude.{◌≡◌, ◌≤◌, ◌⊎◌, List, ℕ, IfOk, OnErr, None, Some, length, not, option_copied};
-ghost use Rattle.std.specs.Io.KnownBytes.{IsAtEnd};
-ghost use Rattle.si_causes.specs.Causes.{Rose};
-ghost use Rattle.si_causes.specs.Opening.{Files};
+ghost use Rattle.std.specs.Prelude.{◌≡◌, ◌≤◌, IfErr, IfOk, OnErr, Ok, None, length, not, option_copied};
 ghost use Rattle.si_causes.specs.Reading.{fresh};
 ghost use Rattle.command_words.specs.Commands.{texts};
+ghost use Rattle.mux_config.specs.Reads.{ReadMux};
 ghost use Rattle.mux_model.specs.Sound.{IsSound};
-ghost use Rattle.epg_report.specs.Texts.{CanBeSaid};
-ghost use Rattle.epg_live.specs.Ends.{HasAsked, HasMetAsking, IsBlank, entries_of};
-ghost use Rattle.epg_live.specs.Runs.{HasRead, Ran, read_faults};
-ghost use Rattle.epg_live.specs.Opened.{AreOpened};
+ghost use Rattle.epg_report.specs.Told.{asked, gave, told};
+ghost use Rattle.epg_live.specs.Ends.{HasAsked};
+ghost use Rattle.epg_live.specs.Opened.{HasOpened};
 ghost use Rattle.epg_live.specs.Views.{has_service, plan_of, unserved};
-ghost use Rattle.epg_live.specs.Met.{LiveRanTo};
-ghost use Rattle.epg_live.specs.Stops.{HasStatusCause, IsMet, IsOfRun, control_status, feed_status, live_status, mux_status, open_status};
+ghost use Rattle.epg_live.specs.Met.{LiveMet, LiveRanTo, StopsBefore};
+ghost use Rattle.epg_live.specs.Stops.{control_status, feed_status, live_status, mux_status};
 
-use crate::feeds::{OpenStop, close_feeds, open_feeds};
+use crate::feeds::{close_feeds, open_feeds};
 use crate::reporting::{LiveResult, Observed};
 use command_words::LiveWords;
 use epg_report::{Origin, Outlet, Status};
@@ -31,8 +28,7 @@ use std::thread::Threads;
 
 // The status where the description of the multiplex was not read.
 fn mux_status(stop: MuxStop) -> Status
-    ensures value { result ≡ mux_status stop }
-    ensures said { CanBeSaid result }
+    ensures { result ≡ mux_status stop }
 {
     match stop {
         MuxStop::Fault(fault) => Status::BadMux(fault),
@@ -42,21 +38,8 @@ fn mux_status(stop: MuxStop) -> Status
     }
 }
 
-// The status where the files of the feeds were not opened.
-fn open_status(stop: OpenStop) -> Status
-    ensures value { result ≡ open_status stop }
-    ensures said { CanBeSaid result }
-{
-    match stop {
-        OpenStop::Feed(feed) => Status::OpenFault(feed),
-        OpenStop::Memory => Status::Memory,
-    }
-}
-
 fn control_status(stop: EditStop) -> Status
-    ensures value { result ≡ control_status stop }
-    ensures said { CanBeSaid result }
-    ensures status { IsOfRun result }
+    ensures { result ≡ control_status stop }
 {
     match stop {
         EditStop::NoCommand(line) => Status::BadScript(line),
@@ -67,9 +50,7 @@ fn control_status(stop: EditStop) -> Status
 }
 
 fn feed_status(feed: u8, stop: EditStop) -> Status
-    ensures value { result ≡ feed_status feed stop }
-    ensures said { CanBeSaid result }
-    ensures status { IsOfRun result }
+    ensures { result ≡ feed_status feed stop }
 {
     match stop {
         EditStop::NoCommand(line) => Status::BadFeed(feed, line),
@@ -81,9 +62,7 @@ fn feed_status(feed: u8, stop: EditStop) -> Status
 
 // The status of a run whose jobs started.
 fn live_status(stop: Option<LiveStop>) -> Status
-    ensures value { result ≡ live_status stop }
-    ensures said { CanBeSaid result }
-    ensures status { IsOfRun result }
+    ensures { result ≡ live_status stop }
 {
     match stop {
         None => Status::Done,
@@ -132,57 +111,52 @@ fn plan_of(alloc: Global, words: &LiveWords) -> Result<LivePlan, AllocError>
     })
 }
 
-// Runs the jobs, closes the files, and gives the input back.
-fn run_jobs<W: Threads + Wait + Sync, O: Opener, S: Source + Send, A: Sink + Send, G: Gate>(
-    rt: &W,
-    alloc: Global,
+// What a run begins with: the multiplex of its description, what its words say, and the readers of its feeds.
+#[derive(Drop)]
+struct Begun<F: Source> {
     mux: Mux,
     plan: LivePlan,
-    feeds: Readers<O::From>,
-    lines: LineReader<S>,
-    opener: &mut O,
-    air: &mut A,
-    gate: &G,
-    run: &mut LiveResult,
-) -> Result<S, AllocError>
-    requires sound { IsSound mux }
-    requires few { length feeds.items ≤ 16 }
-    requires cycles { plan.cycles ≤ 1000 }
-    requires few_views { length plan.views ≤ 8 }
-    requires served { unserved mux plan.views ≡ None }
-    requires going { lines.stop ≡ None }
-    requires opened { (paths : List (List ℕ)) × AreOpened O.From.left O.From.faults (O.files opener.old) paths feeds.items }
-    ensures ran { (paths : List (List ℕ)) → AreOpened O.From.left O.From.faults (O.files opener.old) paths feeds.items
-        → (text : List ℕ) → HasRead S.left text mux lines → (files : Files) → O.files opener.old ≡ Some files
-        → IfOk result (λ source. (run.new.met ≡ Status.Memory) ⊎ Ran paths plan text files (S.left source)
-        (read_faults (S.faults lines.source) (O.read_faults opener.old))
-        (read_faults (S.faults source) (O.read_faults opener.new))
-        (A.written air.old) (A.written air.new) (entries_of run.new.desk) run.new.observed run.new.met) }
-    ensures cause { IfOk result (λ source. HasStatusCause (S.faults lines.source) (S.faults source) (O.read_faults opener.old) (O.read_faults opener.new) (A.faults air.old) (A.faults air.new) run.new.met) }
-    ensures end { IfOk result (λ source. run.new.met ≡ Status.Done → IsAtEnd (S.left source)) }
-    ensures said { IfOk result (λ _. CanBeSaid run.new.met) }
-    ensures status { IfOk result (λ _. IsOfRun run.new.met) }
-    ensures same { IfOk result (λ source. S.same lines.source source) }
-    ensures files { IfOk result (λ _. O.files opener.new ≡ O.files opener.old) }
-    ensures tried { O.tried opener.new ≡ O.tried opener.old }
-    ensures faults { O.faults opener.new ≡ O.faults opener.old }
-{
-    let rate = mux.rate;
-    let end = run_live(rt, alloc, mux, plan, feeds, lines, air, gate)?;
-    run.desk = Some(end.desk);
-    run.observed = Observed {
-        dones: end.dones,
-        views: end.views,
-        guide: end.heard,
-        rate,
-        tally: end.tally,
-    };
-    run.met = live_status(end.stop);
-    close_feeds(opener, end.feeds);
-    Ok(end.control.close())
+    feeds: Readers<F>,
 }
 
-// Reads the description, opens the files of the feeds, and runs; gives the input back.
+// Reads the description, and opens the files of the feeds; or says why no job starts.
+fn begin<O: Opener, S: Source>(
+    alloc: Global,
+    words: &LiveWords,
+    opener: &mut O,
+    lines: &mut LineReader<S>,
+) -> Result<Begun<O::From>, Status>
+    requires few { length words.now.feeds.items ≤ 16 }
+    requires unread { lines.old ≡ fresh lines.old.source }
+    ensures read { IfOk result (λ begun.
+        ReadMux S.left S.faults S.same lines.old lines.new (Ok begun.mux)) }
+    ensures plan { IfOk result (λ begun. begun.plan ≡ plan_of words.now) }
+    ensures served { IfOk result (λ begun. unserved begun.mux words.now.views ≡ None) }
+    ensures opened { IfOk result (λ begun. HasOpened O.From.left O.From.faults (texts words.now.feeds.items)
+        (asked O.files O.tried O.faults O.read_faults opener.old opener.new) begun.feeds.items) }
+    ensures stopped { IfErr result (StopsBefore (texts words.now.feeds.items) (plan_of words.now)
+        (asked O.files O.tried O.faults O.read_faults opener.old opener.new)
+        (gave S.left S.faults lines.old.source lines.new.source)) }
+    ensures kept { (O.read_faults opener.new ≡ O.read_faults opener.old) × S.same lines.old.source lines.new.source }
+{
+    let mux = match read_mux(alloc, lines) {
+        Ok(mux) => mux,
+        Err(stop) => return Err(mux_status(stop)),
+    };
+    match unserved(&mux, words.views.as_slice()) {
+        Some(service) => return Err(Status::NoView(service)),
+        None => {}
+    }
+    let Ok(plan) = plan_of(alloc, words) else {
+        return Err(Status::Memory);
+    };
+    match open_feeds(alloc, opener, &words.feeds) {
+        Ok(feeds) => Ok(Begun { mux, plan, feeds }),
+        Err(stop) => Err(stop),
+    }
+}
+
+// Reads the description, opens the files of the feeds, runs their jobs, and closes the files; gives the input back.
 fn run_described<W: Threads + Wait + Sync, O: Opener, S: Source + Send, A: Sink + Send, G: Gate>(
     rt: &W,
     alloc: Global,
@@ -191,51 +165,54 @@ fn run_described<W: Threads + Wait + Sync, O: Opener, S: Source + Send, A: Sink 
     mut lines: LineReader<S>,
     air: &mut A,
     gate: &G,
-    run: &mut LiveResult,
-) -> Result<S, AllocError>
+) -> Result<(LiveResult, S), AllocError>
     requires few { length words.now.feeds.items ≤ 16 }
     requires cycles { words.now.cycles ≤ 1000 }
     requires views { length words.now.views ≤ 8 }
     requires unread { lines ≡ fresh lines.source }
-    requires blank { IsBlank run.old }
-    ensures met { (text : List ℕ) → S.left lines.source ≡ Some text → (files : Files) → O.files opener.old ≡ Some files
-        → IfOk result (λ source. HasMetAsking (texts words.now.feeds.items) (plan_of words.now) text files (S.left source)
-        (read_faults (S.faults lines.source) (O.read_faults opener.old))
-        (read_faults (S.faults source) (O.read_faults opener.new))
-        (O.tried opener.old) (O.tried opener.new)
-        (A.written air.old) (A.written air.new) (entries_of run.new.desk) run.new.observed run.new.met) }
-    ensures cause { IfOk result (λ source. HasStatusCause (S.faults lines.source) (S.faults source) (O.read_faults opener.old) (O.read_faults opener.new) (A.faults air.old) (A.faults air.new) run.new.met) }
-    ensures open_cause { IfOk result (λ _. (f : ℕ) → run.new.met ≡ Status.OpenFault f → Rose (O.faults opener.old) (O.faults opener.new)) }
-    ensures asked { IfOk result (λ _. HasAsked (texts words.now.feeds.items) (O.tried opener.old) (O.tried opener.new) run.new.met) }
-    ensures asked_some { OnErr result (HasAsked (texts words.now.feeds.items) (O.tried opener.old) (O.tried opener.new) Status.Memory) }
-    ensures end { IfOk result (λ source. run.new.met ≡ Status.Done → IsAtEnd (S.left source)) }
-    ensures said { IfOk result (λ _. CanBeSaid run.new.met) }
-    ensures status { IfOk result (λ _. IsMet run.new.met) }
-    ensures same { IfOk result (λ source. S.same lines.source source) }
+    ensures met { IfOk result (λ ran. LiveMet (texts words.now.feeds.items) (plan_of words.now)
+        (asked O.files O.tried O.faults O.read_faults opener.old opener.new)
+        (gave S.left S.faults lines.source ran.1) (told A.written A.faults air.old air.new) ran.0) }
+    ensures asked { OnErr result (HasAsked (texts words.now.feeds.items)
+        (O.tried opener.old) (O.tried opener.new) Status.Memory) }
+    ensures same { IfOk result (λ ran. S.same lines.source ran.1) }
 {
-    let mux = match read_mux(alloc, &mut lines) {
-        Ok(mux) => mux,
-        Err(stop) => {
-            run.met = mux_status(stop);
-            return Ok(lines.close());
+    let begun = match begin(alloc, words, opener, &mut lines) {
+        Ok(begun) => begun,
+        Err(met) => {
+            let run = LiveResult::none(alloc, met);
+            let source = lines.close();
+            return Ok((run, source));
         }
     };
-    match unserved(&mux, words.views.as_slice()) {
-        Some(service) => {
-            run.met = Status::NoView(service);
-            return Ok(lines.close());
-        }
-        None => {}
-    }
-    let plan = plan_of(alloc, words)?;
-    let feeds = match open_feeds(alloc, opener, &words.feeds) {
-        Ok(feeds) => feeds,
-        Err(stop) => {
-            run.met = open_status(stop);
-            return Ok(lines.close());
-        }
+    let rate = begun.mux.rate;
+    let end = run_live(
+        rt,
+        alloc,
+        begun.mux,
+        begun.plan,
+        begun.feeds,
+        lines,
+        air,
+        gate,
+    )?;
+    close_feeds(opener, end.feeds);
+    let met = live_status(end.stop);
+    let observed = Observed {
+        dones: end.dones,
+        views: end.views,
+        guide: end.heard,
+        rate,
+        tally: end.tally,
     };
-    run_jobs(rt, alloc, mux, plan, feeds, lines, opener, air, gate, run)
+    let desk = Some(end.desk);
+    let run = LiveResult {
+        desk,
+        observed,
+        met,
+    };
+    let source = end.control.close();
+    Ok((run, source))
 }
 
 /// Runs `live` up to its report: reads the description of the multiplex, opens the files of the feeds in order, and then runs their jobs,
@@ -260,11 +237,6 @@ pub fn run_files<W: Threads + Wait + Sync, O: Opener, S: Source + Send, A: Sink 
         (O.tried opener.old) (O.tried opener.new) Status.Memory) }
 {
     let lines = LineReader::open(alloc, &mut *input)?;
-    let mut run = LiveResult {
-        desk: None,
-        observed: Observed::nothing(alloc),
-        met: Status::Done,
-    };
-    let _source = run_described(rt, alloc, words, opener, lines, air, gate, &mut run)?;
-    Ok(run)
+    let (live, _source) = run_described(rt, alloc, words, opener, lines, air, gate)?;
+    Ok(live)
 }

@@ -9,7 +9,6 @@ use crate::run::run_files;
 use command_words::LiveWords;
 use epg_report::{Status, out_of_memory};
 use si_causes::{Gate, Opener, Sink, Source};
-use std::alloc::Global;
 use std::marker::{Send, Sync};
 use std::sync::Wait;
 use std::thread::Threads;
@@ -24,7 +23,6 @@ pub fn run_live_files<
     G: Gate,
 >(
     rt: &W,
-    alloc: Global,
     words: &LiveWords,
     opener: &mut O,
     input: &mut S,
@@ -40,6 +38,7 @@ pub fn run_live_files<
         S.left S.faults input.old input.new
         A.written A.faults air.old air.new R.written R.faults report.old report.new result }
 {
+    let alloc = *words.feeds.allocator();
     let Ok(ran) = run_files(rt, alloc, words, opener, input, air, gate) else {
         return out_of_memory(report);
     };

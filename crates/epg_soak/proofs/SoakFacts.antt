@@ -37,9 +37,9 @@ use Rattle.workload_screen.proofs.Events.{runs_shown}
 use Rattle.workload_runs.specs.Runs.{HasMetDone, HaveFeedTexts, soak_text}
 use Rattle.workload_runs.proofs.Texts.{made_done}
 use Rattle.workload_runs.proofs.Journals.{done_counted, runs_whole}
-use Rattle.epg_soak.specs.Files.{soak_files, soak_paths}
+use Rattle.epg_soak.specs.Files.{soak_files}
 use Rattle.epg_soak.specs.Summary.{count_line, guide_lines, soak_summary, summary_text}
-use Rattle.epg_soak.specs.Load.{IsMetByLoad, LoadMet, is_reported, never_failed, soak_plan}
+use Rattle.epg_soak.specs.Load.{IsMetByLoad, LoadMet, is_reported, load_call}
 use Rattle.epg_soak.specs.SoakRun.{IsOfSoak, LeftSoak, SoakRun, run_summary}
 
 -- ---- what a run of the load may meet
@@ -53,13 +53,14 @@ have_texts number = record { first_is = refl; second_is = refl }
 
 -- what a run over the load's files met
 abbrev MetOfLoad : ℕ → Option (List ℕ) → ReportTaken → LiveResult → Status → Type 0
-MetOfLoad number left air run met = HasMet soak_paths soak_plan soak_text (soak_files number) left never_failed never_failed air.old air.new (entries_of run.desk) run.observed met
+MetOfLoad number left air run met = HasMet (load_call number left air) (entries_of run.desk) run.observed met
 
 load_met : (number : ℕ) (air : ReportTaken) (run : LiveResult) (load : LoadMet number air run) → MetOfLoad number load.left air run run.met
 load_met number air run load =
-    subst (λ (n : ℕ). HasMet soak_paths soak_plan soak_text (soak_files number) load.left never_failed (read_faults 0 n) air.old air.new (entries_of run.desk) run.observed run.met) load.of_load.now
-    (subst (λ (n : ℕ). HasMet soak_paths soak_plan soak_text (soak_files number) load.left (read_faults 0 n) (read_faults 0 load.opener.read_new) air.old air.new (entries_of run.desk) run.observed run.met) load.of_load.before
-    (met_of soak_paths soak_plan soak_text (soak_files number) load.left (read_faults 0 load.opener.read_old) (read_faults 0 load.opener.read_new) load.opener.tried_old load.opener.tried_new air.old air.new
+    let call = load_call number load.left air in
+    subst (λ (n : ℕ). HasMet (record call { faults_now = read_faults 0 n }) (entries_of run.desk) run.observed run.met) load.of_load.now
+    (subst (λ (n : ℕ). HasMet (record call { faults_before = read_faults 0 n; faults_now = read_faults 0 load.opener.read_new }) (entries_of run.desk) run.observed run.met) load.of_load.before
+    (met_of (record call { faults_before = read_faults 0 load.opener.read_old; faults_now = read_faults 0 load.opener.read_new }) load.opener.tried_old load.opener.tried_new
     (entries_of run.desk) run.observed run.met (load.met.met soak_text refl (soak_files number) load.of_load.files)))
 
 caused : (number : ℕ) (air : ReportTaken) (run : LiveResult) (load : LoadMet number air run) → HasStatusCause 0 0 0 0 air.faults_old air.faults_new run.met
@@ -71,7 +72,7 @@ caused number air run load =
 decided : (number : ℕ) (left : Option (List ℕ)) (air : ReportTaken) (run : LiveResult) (met : Status) → MetOfLoad number left air run met
     → ((f : ℕ) → met ≡ OpenFault f → ⊥) → (met ≡ ReadFault Input → ⊥) → (met ≡ WriteFault Air → ⊥) → (met ≡ Memory) ⊎ (met ≡ Done)
 decided number left air run met has no_open no_input no_air =
-    elim (met_decided soak_paths soak_plan soak_text (soak_files number) left never_failed never_failed air.old air.new (entries_of run.desk) run.observed met has no_open no_input no_air never_rose) [
+    elim (met_decided (load_call number left air) (entries_of run.desk) run.observed met has no_open no_input no_air never_rose) [
       | inl memory ↦ inl memory
       | inr ends ↦ inr (ends ∙ made_done number (codes "1") (codes "2") (soak_files number) (have_texts number))
     ]
@@ -138,7 +139,7 @@ module _ (number : ℕ) (air report : ReportTaken) (run : LiveResult) (status : 
   journal = entries_of run.desk
 
   abbrev RanOfLoad : Status → Type 0
-  RanOfLoad met = Ran soak_paths soak_plan soak_text (soak_files number) load.left never_failed never_failed air.old air.new journal run.observed met
+  RanOfLoad met = Ran (load_call number load.left air) journal run.observed met
 
   -- a run that met Done, or a fault of the air, has run
   jobs_ran : (met : Status) → is_reported met ≡ true → IsMetByLoad met → MetOfLoad number load.left air run met → RanOfLoad met
@@ -153,17 +154,8 @@ module _ (number : ℕ) (air report : ReportTaken) (run : LiveResult) (status : 
 
   whole_run : MetOfLoad number load.left air run Done → HasMetDone number journal
   whole_run has = record {
-    first = codes "1";
-    second = codes "2";
-    files = soak_files number;
-    feeds = have_texts number;
-    join = 0;
-    views = [];
-    left = load.left;
-    faults_before = never_failed;
-    faults_now = never_failed;
-    before = air.old;
-    now = air.new;
+    call = load_call number load.left air;
+    made = record { first = codes "1"; second = codes "2"; paths = refl; cycles = refl; text = refl; feeds = have_texts number };
     observed = run.observed;
     met = has;
   }
@@ -171,12 +163,12 @@ module _ (number : ℕ) (air report : ReportTaken) (run : LiveResult) (status : 
   sent_air : (met : Status) → RanOfLoad met → SentAir soak_mux journal air.old air.new
   sent_air met (mux, behind, whole, ran) =
       subst (λ (m : Mux). SentAir m journal air.old air.new) (same_mux mux soak_mux behind control_behind (described soak_text) description_read.1 whole)
-      (air_sent mux journal air.old air.new ran.sent (as_read mux soak_plan soak_text load.left behind soak_paths (soak_files number) never_failed never_failed air.old air.new journal run.observed met whole ran) ran.journal_is.legal ran.air_is)
+      (air_sent mux journal air.old air.new ran.sent (as_read (load_call number load.left air) mux behind journal run.observed met whole ran) ran.journal_is.legal ran.air_is)
 
   summary_said : MetOfLoad number load.left air run Done → RanOfLoad Done → (sent : List ℕ) → air.old ≡ Some sent → summary_text journal run.observed.guide ≡ soak_summary number
   summary_said has (mux, behind, whole, ran) sent knows =
       let same = same_mux mux soak_mux behind control_behind (described soak_text) description_read.1 whole in
-      let last = ran_shown mux soak_plan soak_text load.left behind soak_paths (soak_files number) never_failed never_failed air.old air.new journal run.observed Done whole ran refl sent knows in
+      let last = ran_shown (load_call number load.left air) mux behind journal run.observed Done whole ran refl sent knows in
       let shown = last.shown (omega arith) in
       let counted = done_counted number journal (whole_run has) in
       summary_is number journal run.observed.guide shown.0 counted.0 counted.2.edits counted.2.done (runs_whole number journal (whole_run has))

@@ -6,7 +6,7 @@ use Rattle.epg_report.specs.declared.status.Status.TheVariants.{Done, OpenFault,
 use Rattle.epg_report.specs.declared.status.Outlet.TheVariants.{Air}
 use Rattle.epg_report.specs.Told.{OpenerAsked, ReportTaken}
 use Rattle.epg_live.specs.declared.reporting.LiveResult.{LiveResult}
-use Rattle.epg_live.specs.Runs.{ReadFaults, read_faults}
+use Rattle.epg_live.specs.Runs.{LiveCall, ReadFaults, read_faults}
 use Rattle.epg_live.specs.Met.{LiveMet}
 use Rattle.workload_runs.specs.Runs.{soak_text}
 use Rattle.epg_soak.specs.Files.{soak_files, soak_paths}
@@ -24,6 +24,20 @@ soak_plan = record { cycles = 3; join = 0; views = [] }
 -- neither its input nor a file of its feeds ever failed in a read
 abbrev pub never_failed : ReadFaults
 never_failed = read_faults 0 0
+
+-- the call of `live` over the load's input and files
+abbrev pub load_call : ℕ → Option (List ℕ) → ReportTaken → LiveCall
+load_call number left air = record {
+  paths = soak_paths;
+  plan = soak_plan;
+  text = soak_text;
+  files = soak_files number;
+  left = left;
+  faults_before = never_failed;
+  faults_now = never_failed;
+  before = air.old;
+  now = air.new;
+}
 
 -- A run of `live` over the load's input and files, with three cycles, heard from packet 0 on.
 pub record LoadMet (number : ℕ) (air : ReportTaken) (run : LiveResult) : Type 0 where

@@ -13,9 +13,7 @@ use Rattle.epg_live.specs.Runs.{Ran}
 use Rattle.epg_report.specs.Ends.{ReportEnds}
 use Rattle.workload_laws.specs.Load.{soak_mux}
 use Rattle.workload_laws.specs.Callers.{IsSoakRun}
-use Rattle.workload_runs.specs.Runs.{soak_text}
-use Rattle.epg_soak.specs.Files.{soak_files, soak_paths}
-use Rattle.epg_soak.specs.Load.{never_failed, soak_plan}
+use Rattle.epg_soak.specs.Load.{load_call}
 use Rattle.epg_soak.specs.Summary.{soak_summary, summary_text}
 
 -- what the report says of a run that met this: with Done the summary, and else nothing but the fault
@@ -38,7 +36,7 @@ pub record LeftSoak (number : ℕ) (air report : ReportTaken) (status : Status) 
   pub left : Option (List ℕ)
   -- the journal has just the commands of each caller that the made texts give, as with `live`; what was sent is its air. No job's own stop is a
   -- failed read, whatever another met, for none failed
-  pub ran : Ran soak_paths soak_plan soak_text (soak_files number) left never_failed never_failed air.old air.new journal observed met
+  pub ran : Ran (load_call number left air) journal observed met
   -- with Done all of them: those of a whole run of the load
   pub whole : met ≡ Done → IsSoakRun number journal
   -- what was sent is heard as it should be: coherent, exact and spaced

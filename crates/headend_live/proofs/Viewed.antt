@@ -1,6 +1,6 @@
 -- The views of a run, from their jobs to their lines.
 use Rattle.std.proofs.Common.{◌≡◌, ◌≢◌, ◌∙◌, ◌==◌, ne_eqb, ℕ, ◌+◌, ◌<◌, zero, suc, Bool, true, false, List, [], ◌∷◌, ◌++◌, length, map, take, refl, sym, ap, subst, arith, append-nil, append_assoc, vec_len}
-use Rattle.std.specs.Prelude.{Option, Some, None, Ok, Err, Result, OnOk, get_or, remove, slice_index_or}
+use Rattle.std.specs.Prelude.{Option, Some, None, Ok, Err, Result, get_or, remove, slice_index_or}
 use Rattle.std.specs.List.{All, AllByRecursion, AllZip}
 use Rattle.std.proofs.lemmas.List.{map-append, take_more}
 use Rattle.std.proofs.lemmas.List.Elements.{All-from_recursion, recursion_from_All}
@@ -14,10 +14,11 @@ use Rattle.headend_jobs.specs.declared.live.LiveStop.TheVariants as live
 use Rattle.headend_jobs.specs.declared.views.ViewJob.{ViewJob}
 use Rattle.air_sending.specs.declared.send.SendStop.{SendStop}
 use Rattle.air_sending.specs.declared.send.SendStop.TheVariants.{Air, Memory}
-use Rattle.headend_jobs.specs.Live.{TallyDid, and_stop, sent_stop}
+use Rattle.headend_jobs.specs.Live.{TallyDid}
+use Rattle.headend_jobs.specs.Stops.{after, and_stop, sent_stop}
 use Rattle.air_sending.specs.Tallied.{IsTallyOf}
 use Rattle.timed_player.specs.Tally.{Tallied}
-use Rattle.headend_jobs.specs.Posting.{KeepsBoard, opening_of, posts_of}
+use Rattle.headend_jobs.specs.Posting.{KeepsBoard, opening_of}
 use Rattle.headend_jobs.specs.Views.{AreSaid, ViewDid, ViewReady, Viewed, ViewsDid}
 use Rattle.headend_jobs.proofs.Posts.{opening_services}
 use Rattle.headend_live.specs.declared.views.ViewLine.{ViewLine}
@@ -170,14 +171,6 @@ told_all board cycles all left viewers lines none t =
 
 -- ---- the stop
 
-pub stop_twice : (first second : Bool) (stop : Option LiveStop) → (both : Bool) × (watched_stop second (watched_stop first stop) ≡ watched_stop both stop) × (second ≡ true → both ≡ true)
-stop_twice first true stop = (true, stop_memory first stop, λ e. refl)
-  where
-    stop_memory : (first : Bool) (stop : Option LiveStop) → watched_stop true (watched_stop first stop) ≡ Some live.Memory
-    stop_memory true stop = refl
-    stop_memory false stop = refl
-stop_twice first false stop = (first, refl, λ e. cc e)
-
 pub no_stop : (wanting : Bool) (stop : Option LiveStop) → watched_stop wanting stop ≡ None → stop ≡ None
 no_stop true None e = refl
 no_stop true (Some live.Memory) e = cc e
@@ -186,26 +179,27 @@ no_stop true (Some (live.Control stop)) e = cc e
 no_stop true (Some (live.Feed feed stop)) e = cc e
 no_stop false stop e = e
 
+after_some : (first : LiveStop) (b : Option LiveStop) → after first b ≡ None → ⊥
+after_some first None e = cc
+after_some first (Some live.Memory) e = cc
+after_some first (Some other) e = cc
+
+-- there is none of two stops where neither is
+pub and_none : (a b : Option LiveStop) → and_stop a b ≡ None → (a ≡ None) × (b ≡ None)
+and_none None b e = (refl, e)
+and_none (Some live.Memory) b e = cc
+and_none (Some live.Air) b e = absurd (after_some live.Air b e)
+and_none (Some (live.Control t)) b e = absurd (after_some (live.Control t) b e)
+and_none (Some (live.Feed g t)) b e = absurd (after_some (live.Feed g t) b e)
+
+sent_none : (sent : Result (Unit {0}) SendStop) → sent_stop sent ≡ None → sent ≡ Ok tt
+sent_none (Ok u) e = refl
+sent_none (Err Air) e = cc e
+sent_none (Err Memory) e = cc e
+
 -- where nothing stopped a run, all was sent
-pub all_sent : (sent : Result (Unit {0}) SendStop) (rest : Option LiveStop) → and_stop (sent_stop sent) rest ≡ None → sent ≡ Ok tt
-all_sent (Ok u) rest e = refl
-all_sent (Err Memory) rest e = cc e
-all_sent (Err Air) None e = cc e
-all_sent (Err Air) (Some live.Memory) e = cc e
-all_sent (Err Air) (Some live.Air) e = cc e
-all_sent (Err Air) (Some (live.Control stop)) e = cc e
-all_sent (Err Air) (Some (live.Feed feed stop)) e = cc e
-
-on_ok : (X : Type 0) (sent : Result (Unit {0}) SendStop) → sent ≡ Ok tt → OnOk sent X → X
-on_ok X (Ok u) e x = x
-on_ok X (Err stop) e x = cc e
-
--- The lines of a run that nothing stopped are over the posts of its journal.
-pub viewed_end : (mux : Mux) (journal : List Entry) (posts : List Post) (count : ℕ) (services views : List ℕ) (sent : Result (Unit {0}) SendStop) (rest : Option LiveStop) (viewers : List Sight) (lines : List ViewLine)
-    → and_stop (sent_stop sent) rest ≡ None → OnOk sent (posts ≡ posts_of mux journal) → services ≡ views → AreViewed posts count services viewers lines → AreViewed (posts_of mux journal) count views viewers lines
-viewed_end mux journal posts count services views sent rest viewers lines none posted same are =
-    subst (λ (l : List ℕ). AreViewed (posts_of mux journal) count l viewers lines) same
-    (subst (λ (l : List Post). AreViewed l count services viewers lines) (on_ok (posts ≡ posts_of mux journal) sent (all_sent sent rest none) posted) are)
+pub all_sent : (wanting : Bool) (sent : Result (Unit {0}) SendStop) (rest : Option LiveStop) → watched_stop wanting (and_stop (sent_stop sent) rest) ≡ None → sent ≡ Ok tt
+all_sent wanting sent rest none = sent_none sent (and_none (sent_stop sent) rest (no_stop wanting (and_stop (sent_stop sent) rest) none)).0
 
 -- where memory was not wanting, the tally is that of the journal
 pub tally_known : (mux : Mux) (journal : List Entry) (tally : Tallied) (wanting : Bool) (sent : Result (Unit {0}) SendStop) (rest stop : Option LiveStop) → stop ≡ watched_stop wanting (and_stop (sent_stop sent) rest)

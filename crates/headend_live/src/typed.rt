@@ -84,7 +84,8 @@ fn other_named(other: &Other)
 }
 
 fn others_named(others: &[Other])
-    ensures { AllByRecursion (λ (o : OtherStream). AllByRecursion (λ (s : Remote). IsKept s.provider × IsKept s.name) o.services) others.now }
+    ensures { AllByRecursion (λ (o : OtherStream).
+        AllByRecursion (λ (s : Remote). IsKept s.provider × IsKept s.name) o.services) others.now }
 {
     for other in others {
         other_named(other);

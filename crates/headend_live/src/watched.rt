@@ -1,35 +1,20 @@
 // A run of feeds, control, player and viewers, whose air is heard.
-ghost use Rattle.std.specs.Prelude.{◌≡◌, ◌≤◌, ◌↔◌, ◌≢◌, ◌+◌, ◌∷◌, Bool, true, false, List, ℕ, Option, None, Some, OnOk, OnErr, IfOk, IfSome, IsSome, [], length};
-ghost use Rattle.mux_model.specs.Sound.{IsSound, IsSoundWithIds};
-ghost use Rattle.air_coherence.specs.Coherence.{IsCoherent};
-ghost use Rattle.cycle_player.specs.Sent.{IsSentWhole, SentOf};
-ghost use Rattle.carousel_player.specs.Spacing.{IsSpacedAir};
-ghost use Rattle.timed_player.specs.Playing.{IsTimedAir};
-ghost use Rattle.journal_air.specs.Air.{airings};
-ghost use Rattle.journal_air.specs.Laws.{HasTypedEdits};
-ghost use Rattle.air_sending.specs.OnAir.{HasAirCause};
-ghost use Rattle.journal_screen.specs.Shown.{IsAsRead, IsExact};
-ghost use Rattle.guide_receiver.specs.Guides.{guide_of};
-ghost use Rattle.air_monitor.specs.Heard.{HasTaken, HearsBy, WasHeard};
-ghost use Rattle.headend_jobs.specs.Callers.{HasRun};
-ghost use Rattle.std.specs.List.{All, AllByRecursion};
-ghost use Rattle.headend_jobs.specs.Posting.{KeepsBoard, opening_of, posts_of};
-ghost use Rattle.headend_jobs.specs.Views.{ViewReady, ViewsDid};
+ghost use Rattle.std.specs.Prelude.{◌≡◌, ◌≤◌, ◌+◌, ℕ, None, OnErr, IfOk, [], false, length};
+ghost use Rattle.std.specs.List.{AllByRecursion};
+ghost use Rattle.mux_model.specs.Sound.{IsSound};
+ghost use Rattle.headend_jobs.specs.Jobs.{streams};
+ghost use Rattle.headend_jobs.specs.Ran.{taken};
+ghost use Rattle.headend_live.specs.SentLive.{SentLive};
 ghost use Rattle.headend_live.specs.Viewing.{AreViewed, IsAsked, IsServiceOf, asked_for};
-ghost use Rattle.air_sending.specs.HeardKeys.{HaveFewKeys};
-ghost use Rattle.air_sending.specs.SentAir.{OfEachAir};
-ghost use Rattle.headend_live.specs.Watched.{WatchedRan, wanting_stop, watched_stop};
-ghost use Rattle.headend_jobs.specs.Live.{run_stop, TallyDid};
-ghost use Rattle.headend_jobs.specs.declared.live.LiveStop.TheVariants as live;
-ghost use Rattle.air_sending.specs.Tallied.{IsTallyOf};
+ghost use Rattle.headend_live.specs.Watched.{IsNotTold, IsOpened, IsTold, WatchedRan, wanting_stop, watched_stop};
 
 use crate::views::{Numbers, ViewLines, Views, gather, open_views};
 use air_monitor::{DoneLines, Monitor, MonitorLog};
-use cycle_player::Tally;
+use cycle_player::{CyclePlayer, Tally};
 use desk_core::Desk;
 use guide_board::{BoardWriter, Viewers};
 use guide_receiver::Heard;
-use headend_jobs::{Ended, LiveStop, ViewJob, and_stop, run_hall};
+use headend_jobs::{Inputs, LiveStop, Sender, ViewJob, and_stop, open_player, run_hall};
 use mux_model::Mux;
 use si_causes::{Gate, LineReader, Sink, Source};
 use std::alloc::{AllocError, Global};
@@ -79,181 +64,170 @@ fn wanting_stop(wanting: bool) -> Option<LiveStop>
     }
 }
 
-// The guide that was heard, where nothing stopped the run.
-fn guide_unless(stop: Option<LiveStop>, log: &MonitorLog) -> Result<Option<Heard>, AllocError>
-    ensures there { IfOk result (λ heard. IsSome heard ↔ (stop ≡ None)) }
-    ensures guide { (join : ℕ) (packets : List (List ℕ)) → HearsBy false join packets log.now.receiver log.now.dones
-        → IfOk result (λ heard. IfSome heard (λ h. h ≡ guide_of packets)) }
-{
-    match stop {
-        None => Ok(Some(log.guide()?)),
-        Some(_) => Ok(None),
-    }
-}
-
-// The guide and the stop of a run, where want of memory for the guide is a stop too.
-fn guide_and_stop(log: &MonitorLog, stop: Option<LiveStop>) -> (Option<Heard>, Option<LiveStop>)
-    ensures stop { (wanting : Bool) × (log.now.wanting ≡ true → wanting ≡ true) × (result.1 ≡ watched_stop wanting stop) }
-    ensures there { IsSome result.0 ↔ (result.1 ≡ None) }
-    ensures guide { (join : ℕ) (packets : List (List ℕ)) → HearsBy false join packets log.now.receiver log.now.dones
-        → IfSome result.0 (λ h. h ≡ guide_of packets) }
-{
-    let stop = watched_stop(log.wanting, stop);
-    match guide_unless(stop, log) {
-        Ok(heard) => (heard, stop),
-        Err(_) => (None, Some(LiveStop::Memory)),
-    }
-}
-
-// What the views leave, where nothing stopped the run.
-fn views_unless(
-    stop: Option<LiveStop>,
-    board: &mut BoardWriter,
-    jobs: Vec<ViewJob>,
-    room: Views,
-) -> Result<Views, AllocError>
-    requires asked { (cycles : ℕ) × AllByRecursion (IsAsked board.old cycles) jobs.items }
-    requires none { (room.lines ≡ []) × (room.viewers ≡ []) }
-    ensures { (cycles : ℕ) → AllByRecursion (IsAsked board.old cycles) jobs.items → stop ≡ None
-        → IfOk result (λ views. AreViewed board.old.posts (cycles + 1) (asked_for jobs.items) views.viewers views.lines) }
-{
-    match stop {
-        None => gather(board, jobs, room),
-        Some(_) => Ok(room),
-    }
-}
-
-// What the views leave, and the stop of a run, where want of memory for them is a stop too.
-fn views_and_stop(
-    alloc: Global,
-    board: &mut BoardWriter,
-    jobs: Vec<ViewJob>,
-    room: Views,
-    stop: Option<LiveStop>,
-) -> (Views, Option<LiveStop>)
-    requires asked { (cycles : ℕ) × AllByRecursion (IsAsked board.old cycles) jobs.items }
-    requires none { (room.lines ≡ []) × (room.viewers ≡ []) }
-    ensures stop { (wanting : Bool) × (result.1 ≡ watched_stop wanting stop) }
-    ensures viewed { (cycles : ℕ) → AllByRecursion (IsAsked board.old cycles) jobs.items → result.1 ≡ None
-        → AreViewed board.old.posts (cycles + 1) (asked_for jobs.items) result.0.viewers result.0.lines }
-{
-    match views_unless(stop, board, jobs, room) {
-        Ok(views) => (views, stop),
-        Err(_) => (Views::none(alloc), Some(LiveStop::Memory)),
-    }
-}
-
-// These views, where nothing stopped the run.
-fn shown_views(alloc: Global, stop: Option<LiveStop>, views: Views) -> Views
-    ensures shown { stop ≡ None → result ≡ views }
-    ensures none { stop ≢ None → result.lines ≡ [] }
-{
-    match stop {
-        None => views,
-        Some(_) => Views::none(alloc),
-    }
-}
-
-// The end of a run, or that it did not begin, and what was heard.
+// What is told of a run that is over: the guide that was heard and what the views leave, where
+// nothing stopped it, or else why it stopped.
 #[derive(Drop)]
-struct Ran<F: Source, S: Source> {
-    end: Result<Ended<F, S>, AllocError>,
-    heard: MonitorLog,
+struct Observed {
+    guide: Option<Heard>,
+    views: Views,
+    stop: Option<LiveStop>,
 }
 
-// Runs through a monitor. That it keeps the reference that it was lent is a clause of its own, for by it the caller knows its air.
-fn run_through<
-    W: Threads + Wait + Sync,
-    F: Source + Send,
-    S: Source + Send,
-    A: Sink + Send,
-    G: Gate,
->(
-    rt: &W,
-    alloc: Global,
-    mux: Mux,
-    cycles: u64,
-    feeds: Vec<LineReader<F>>,
-    control: LineReader<S>,
-    views: &mut [ViewJob],
-    board: &mut BoardWriter,
-    monitor: &mut Monitor<&mut A>,
-    gate: &G,
-) -> Result<Ended<F, S>, AllocError>
-    requires sound { IsSound mux }
-    requires few { length feeds.items ≤ 16 }
-    requires cycles { cycles ≤ 1000 }
-    requires opening { board.old.posts ≡ opening_of mux ∷ [] }
-    requires views { All ViewReady views.old }
-    ensures did { IfOk result (λ end. HasRun F.left F.faults F.same S.left S.faults S.same mux cycles feeds.items control (A.written monitor.old.air.now) (A.written monitor.new.air.now) end) }
-    ensures tally { IfOk result (λ end. TallyDid mux end.desk.entries end.tally end.sent) }
-    ensures mux { IfOk result (λ end. end.desk.mux ≡ mux) }
-    ensures stop { IfOk result (λ end. end.stop ≡ run_stop end.sent end.control end.feed) }
-    ensures posted { IfOk result (λ end. OnOk end.sent (board.new.posts ≡ posts_of mux end.desk.entries)) }
-    ensures board { KeepsBoard board.old board.new }
-    ensures views { OnOk result (ViewsDid views.old views.new) }
-    ensures cause { IfOk result (λ end. HasAirCause (A.faults monitor.old.air.now) (A.faults monitor.new.air.now) end.sent) }
-    ensures memory { OnErr result (monitor.new.air ≡ monitor.old.air) }
-    ensures reference { monitor.new.air.ghost_name ≡ monitor.old.air.ghost_name }
-    ensures watched { HasTaken [] monitor.old.part monitor.old.listener → WasHeard monitor.old.listener.join (A.written monitor.old.air.now) (A.written monitor.new.air.now) monitor.new.listener.wanting monitor.new.listener.receiver monitor.new.listener.dones }
-{
-    run_hall(
-        rt, alloc, mux, cycles, feeds, control, views, board, monitor, gate,
-    )
+impl Observed {
+    // Nothing, for this stop.
+    fn stopped(alloc: Global, stop: LiveStop) -> Observed
+        ensures { IsNotTold stop result }
+    {
+        Observed {
+            guide: None,
+            views: Views::none(alloc),
+            stop: Some(stop),
+        }
+    }
 }
 
-// Runs, and gives back what was heard.
-fn run_and_hear<
-    W: Threads + Wait + Sync,
-    F: Source + Send,
-    S: Source + Send,
-    A: Sink + Send,
-    G: Gate,
->(
-    rt: &W,
-    alloc: Global,
-    mux: Mux,
-    cycles: u64,
-    join: u64,
-    feeds: Vec<LineReader<F>>,
-    control: LineReader<S>,
-    views: &mut [ViewJob],
+// The guide that was heard, and what the views leave.
+fn observe_all(
+    log: &MonitorLog,
     board: &mut BoardWriter,
-    air: &mut A,
-    gate: &G,
-) -> Ran<F, S>
-    requires sound { IsSound mux }
-    requires few { length feeds.items ≤ 16 }
-    requires cycles { cycles ≤ 1000 }
-    requires opening { board.old.posts ≡ opening_of mux ∷ [] }
-    requires views { All ViewReady views.old }
-    ensures did { IfOk result.end (λ end. HasRun F.left F.faults F.same S.left S.faults S.same mux cycles feeds.items control (A.written air.old) (A.written air.new) end) }
-    ensures tally { IfOk result.end (λ end. TallyDid mux end.desk.entries end.tally end.sent) }
-    ensures mux { IfOk result.end (λ end. end.desk.mux ≡ mux) }
-    ensures stop { IfOk result.end (λ end. end.stop ≡ run_stop end.sent end.control end.feed) }
-    ensures posted { IfOk result.end (λ end. OnOk end.sent (board.new.posts ≡ posts_of mux end.desk.entries)) }
-    ensures board { KeepsBoard board.old board.new }
-    ensures views { OnOk result.end (ViewsDid views.old views.new) }
-    ensures cause { IfOk result.end (λ end. HasAirCause (A.faults air.old) (A.faults air.new) end.sent) }
-    ensures memory { OnErr result.end (air.new ≡ air.old) }
-    ensures heard { WasHeard join (A.written air.old) (A.written air.new) result.heard.wanting result.heard.receiver result.heard.dones }
+    jobs: Vec<ViewJob>,
+    room: Views,
+) -> Result<Observed, AllocError>
+    requires asked { (cycles : ℕ) × AllByRecursion (IsAsked board.old cycles) jobs.items }
+    requires none { (room.lines ≡ []) × (room.viewers ≡ []) }
+    ensures told { log.now.wanting ≡ false → IfOk result (λ told. IsTold log.now None told) }
+    ensures viewed { (cycles : ℕ) → AllByRecursion (IsAsked board.old cycles) jobs.items
+        → IfOk result (λ told. AreViewed board.old.posts (cycles + 1) (asked_for jobs.items)
+        told.views.viewers told.views.lines) }
 {
-    let mut monitor = Monitor::open(alloc, &mut *air, join);
-    let end = run_through(
-        rt,
-        alloc,
-        mux,
-        cycles,
-        feeds,
-        control,
+    let views = gather(board, jobs, room)?;
+    let guide = log.guide()?;
+    Ok(Observed {
+        guide: Some(guide),
         views,
+        stop: None,
+    })
+}
+
+// What is told of a run that met this stop, where want of memory for what was heard, for the views
+// and for the guide is a stop too.
+fn observe(
+    alloc: Global,
+    stop: Option<LiveStop>,
+    log: &MonitorLog,
+    board: &mut BoardWriter,
+    jobs: Vec<ViewJob>,
+    room: Views,
+) -> Observed
+    requires asked { (cycles : ℕ) × AllByRecursion (IsAsked board.old cycles) jobs.items }
+    requires none { (room.lines ≡ []) × (room.viewers ≡ []) }
+    ensures told { IsTold log.now stop result }
+    ensures viewed { (cycles : ℕ) → AllByRecursion (IsAsked board.old cycles) jobs.items → result.stop ≡ None
+        → AreViewed board.old.posts (cycles + 1) (asked_for jobs.items) result.views.viewers result.views.lines }
+{
+    match watched_stop(log.wanting, stop) {
+        Some(stop) => return Observed::stopped(alloc, stop),
+        None => {}
+    }
+    match observe_all(log, board, jobs, room) {
+        Ok(told) => told,
+        Err(_) => Observed::stopped(alloc, LiveStop::Memory),
+    }
+}
+
+// What a run begins with, after all that can fail for want of memory: its multiplex and its plan,
+// what sends but the air, the jobs of the views, and the room for their lines.
+struct Opened {
+    mux: Mux,
+    plan: LivePlan,
+    player: CyclePlayer,
+    board: BoardWriter,
+    jobs: Vec<ViewJob>,
+    room: Views,
+}
+
+// Opens all but the air.
+fn open_live<W: Wait>(rt: &W, alloc: Global, mux: Mux, plan: LivePlan) -> Result<Opened, AllocError>
+    requires sound { IsSound mux }
+    requires cycles { plan.cycles ≤ 1000 }
+    requires views { (length plan.views ≤ 8) × AllByRecursion (IsServiceOf mux) plan.views }
+    ensures { IfOk result (IsOpened mux plan) }
+{
+    let room = Views::room(alloc, plan.views.len(), plan.cycles)?;
+    let player = open_player(alloc, &mux)?;
+    let (board, jobs) = open_views(rt, alloc, &mux, plan.views.as_slice(), plan.cycles)?;
+    Ok(Opened {
+        mux,
+        plan,
+        player,
         board,
-        &mut monitor,
-        gate,
-    );
-    let heard = monitor.take_log();
-    let _air = monitor.close();
-    Ran { end, heard }
+        jobs,
+        room,
+    })
+}
+
+// Runs through a monitor of the air: the end of the run, or that it did not begin, and the air.
+fn run_opened<
+    W: Threads + Wait + Sync,
+    F: Source + Send,
+    S: Source + Send,
+    A: Sink + Send,
+    G: Gate,
+>(
+    rt: &W,
+    alloc: Global,
+    opened: Opened,
+    inputs: Inputs<F, S>,
+    air: A,
+    gate: &G,
+) -> (Result<LiveEnd<F, S>, AllocError>, A)
+    requires opened { IsOpened opened.mux opened.plan opened }
+    requires few { length inputs.feeds.items ≤ 16 }
+    ensures ran { IfOk result.0 (WatchedRan (streams F.left F.faults F.same S.left S.faults S.same)
+        opened.mux opened.plan inputs.feeds.items inputs.control (taken A.written A.faults air result.1)) }
+    ensures same { A.same air result.1 }
+    ensures memory { OnErr result.0 (result.1 ≡ air) }
+{
+    let Opened {
+        mux,
+        plan,
+        player,
+        board,
+        jobs,
+        room,
+    } = opened;
+    let air = Monitor::open(alloc, air, plan.join);
+    let mut sender = Sender {
+        mux,
+        player,
+        board,
+        air,
+    };
+    match run_hall(rt, alloc, &mut sender, plan.cycles, inputs, jobs, gate) {
+        Ok(end) => {
+            let log = sender.air.take_log();
+            let told = observe(alloc, end.stop, &log, &mut sender.board, end.views, room);
+            let monitor = sender.close(rt);
+            let air = monitor.close();
+            let end = LiveEnd {
+                desk: end.desk,
+                tally: end.tally,
+                dones: log.dones,
+                heard: told.guide,
+                views: told.views.lines,
+                viewers: told.views.viewers,
+                stop: told.stop,
+                feeds: end.inputs.feeds,
+                control: end.inputs.control,
+            };
+            (Ok(end), air)
+        }
+        Err(error) => {
+            let monitor = sender.close(rt);
+            let air = monitor.close();
+            (Err(error), air)
+        }
+    }
 }
 
 /// Runs feeds, control, player and viewers side by side over a fresh desk, in threads where they
@@ -290,72 +264,14 @@ pub fn run_live<
     requires few { length feeds.items ≤ 16 }
     requires cycles { plan.cycles ≤ 1000 }
     requires views { (length plan.views ≤ 8) × AllByRecursion (IsServiceOf mux) plan.views }
-    ensures ran { IfOk result (λ end. WatchedRan F.left F.faults F.same S.left S.faults S.same mux plan feeds.items control (A.written air.old) (A.written air.new) (A.faults air.old) (A.faults air.new) end) }
-    // What was sent are the first bytes of an air of the journal, and all of one where nothing stopped the run.
-    ensures sent { IfOk result (λ end. SentOf mux.rate (airings mux end.desk.entries) (A.written air.old) (A.written air.new)) }
-    ensures whole { IfOk result (λ end. end.stop ≡ None
-        → (air : SentOf mux.rate (airings mux end.desk.entries) (A.written air.old) (A.written air.new)) × IsSentWhole air) }
-    // Each such air is coherent: of any part of its packets no content is ever completed from two airings.
-    ensures coherent { IfOk result (λ end. IsSoundWithIds mux → HasTypedEdits end.desk.entries
-        → OfEachAir mux.rate (airings mux end.desk.entries) (A.written air.old) (A.written air.new) IsCoherent) }
-    // And without a bit rate it is spaced: sections of tier Fast and Near repeat within their bounds.
-    ensures spaced { IfOk result (λ end. HasTypedEdits end.desk.entries → mux.rate ≡ None
-        → OfEachAir None (airings mux end.desk.entries) (A.written air.old) (A.written air.new) (λ cycles packets. IsSpacedAir cycles)) }
-    // And at one it keeps time: sections of one sub-table are 25 ms apart, and TDT and TOT tell the time.
-    ensures timed { IfOk result (λ end. (rate : ℕ) → IsAsRead mux end.desk.entries → mux.rate ≡ Some rate
-        → OfEachAir (Some rate) (airings mux end.desk.entries) (A.written air.old) (A.written air.new) (λ cycles packets. IsTimedAir rate cycles)) }
-    // And exact: once a cycle was heard whole, the guide is that of its publication, as long as that stays on air.
-    ensures exact { IfOk result (λ end. IsAsRead mux end.desk.entries
-        → OfEachAir mux.rate (airings mux end.desk.entries) (A.written air.old) (A.written air.new) (IsExact mux end.desk.entries)) }
-    // And of its packets no receiver hears more keys than it keeps.
-    ensures keys { IfOk result (λ end. IsSoundWithIds mux → HasTypedEdits end.desk.entries
-        → OfEachAir mux.rate (airings mux end.desk.entries) (A.written air.old) (A.written air.new) (λ cycles packets. HaveFewKeys packets)) }
-    // The tally is that of the cycles of the journal, unless memory was wanting.
-    ensures tally { IfOk result (λ end. end.stop ≢ Some live.Memory
-        → IsTallyOf mux end.desk.entries end.tally) }
+    ensures ran { IfOk result (WatchedRan (streams F.left F.faults F.same S.left S.faults S.same)
+        mux plan feeds.items control (taken A.written A.faults air.old air.new)) }
+    ensures sent { IfOk result (λ end.
+        SentLive mux end.desk.entries end.stop (A.written air.old) (A.written air.new)) }
     ensures memory { OnErr result (air.new ≡ air.old) }
 {
-    let LivePlan {
-        cycles,
-        join,
-        views,
-    } = plan;
-    let room = Views::room(alloc, views.len(), cycles)?;
-    let (mut board, mut jobs) = open_views(rt, alloc, &mux, views.as_slice(), cycles)?;
-    let Ran { end, heard } = run_and_hear(
-        rt,
-        alloc,
-        mux,
-        cycles,
-        join,
-        feeds,
-        control,
-        jobs.as_mut_slice(),
-        &mut board,
-        air,
-        gate,
-    );
-    match end {
-        Ok(end) => {
-            let (views, stop) = views_and_stop(alloc, &mut board, jobs, room, end.stop);
-            board.close(rt);
-            let (guide, stop) = guide_and_stop(&heard, stop);
-            let views = shown_views(alloc, stop, views);
-            Ok(LiveEnd {
-                desk: end.desk,
-                tally: end.tally,
-                dones: heard.dones,
-                heard: guide,
-                views: views.lines,
-                viewers: views.viewers,
-                stop,
-                feeds: end.feeds,
-                control: end.lines,
-            })
-        }
-        Err(error) => {
-            board.close(rt);
-            Err(error)
-        }
-    }
+    let opened = open_live(rt, alloc, mux, plan)?;
+    let inputs = Inputs { feeds, control };
+    let (end, _air) = run_opened(rt, alloc, opened, inputs, &mut *air, gate);
+    end
 }

@@ -1,5 +1,5 @@
 -- The journal of a run over the made texts that met Done.
-use Rattle.std.proofs.Common.{◌≡◌, inl, inr, ℕ, List, [], ◌∷◌, ◌++◌, refl, sym, ap, ◌∙◌, subst, map, append-nil, lit≤}
+use Rattle.std.proofs.Common.{◌≡◌, ◌≤◌, ◌+◌, inl, inr, ℕ, List, [], ◌∷◌, ◌++◌, refl, sym, ap, ◌∙◌, subst, map, append-nil, lit≤, length, arith}
 use Rattle.std.specs.Prelude.{Option, Some, None, Ok}
 use Rattle.si_causes.specs.Opening.{Files, file_at}
 use Rattle.mux_model.specs.declared.mux.Mux.{Mux}
@@ -16,12 +16,11 @@ use Rattle.desk_hall.specs.Reads.{commands_by, control_step, controls_ahead, edi
 use Rattle.headend_jobs.specs.Callers.{CommandsAre}
 use Rattle.headend_jobs.specs.Ticking.{tick_by, tick_of, ticks_of, turns_by}
 use Rattle.headend_jobs.specs.Whole.{final_commands}
-use Rattle.headend_live.specs.declared.watched.LivePlan.{LivePlan}
 use Rattle.epg_report.specs.declared.status.Status.TheVariants.{Done}
 use Rattle.epg_live.specs.declared.reporting.Observed.{Observed}
-use Rattle.epg_live.specs.Stops.{feeds_stop}
+use Rattle.headend_jobs.specs.Stops.{feeds_stop}
 use Rattle.mux_config.specs.Texts.{described}
-use Rattle.epg_live.specs.Runs.{CallerDid, FeedsDid, JobsRan, ReadFaults}
+use Rattle.epg_live.specs.Runs.{CallerDid, FeedsDid, JobsRan, LiveCall}
 use Rattle.epg_live.specs.Ends.{HasMet}
 use Rattle.si_workload.specs.Texts.{feed_text}
 use Rattle.workload_laws.specs.Load.{soak_controls, soak_edits, soak_mux}
@@ -30,7 +29,7 @@ use Rattle.workload_laws.specs.Callers.{IsSoakRun, commands_of}
 use Rattle.workload_laws.proofs.Callers.{runs_counted}
 use Rattle.workload_laws.proofs.Closed.{control_read, description_read}
 use Rattle.workload_laws.proofs.MadeEdits.{feeds_read}
-use Rattle.workload_runs.specs.Runs.{DoneRunsAreCounted, DoneRunsAreWhole, HaveFeedTexts, soak_text}
+use Rattle.workload_runs.specs.Runs.{DoneRunsAreCounted, DoneRunsAreWhole, HaveFeedTexts, IsMade}
 use Rattle.epg_live.proofs.LeavesFacts.{last_made}
 use Rattle.workload_runs.proofs.Stops.{all_swapped, done_stops, two_fed}
 
@@ -76,36 +75,35 @@ feeds_did number first second files journal (a ∷ b ∷ []) have none did =
 
 -- ---- the run
 
-module _ (number : ℕ) (first second text : List ℕ) (files : Files) (have : HaveFeedTexts number first second files) (is : described text ≡ Came (Ok soak_mux) control_behind) (plan : LivePlan) (three : plan.cycles ≡ 3) (left : Option (List ℕ))
-    (faults_before faults_now : ReadFaults) (before now : Option (List ℕ)) (journal : List Entry) (observed : Observed) where
-  jobs_ran : (mux : Mux) (behind : Ahead) → described text ≡ Came (Ok mux) behind
-      → JobsRan mux plan text left behind (first ∷ second ∷ []) files faults_before faults_now before now journal observed Done → IsSoakRun number journal
-  jobs_ran mux behind whole ran =
-      let same = same_mux mux soak_mux behind control_behind (described text) is whole in
-      let stops = done_stops ran.sent ran.control_stop (feeds_stop None 1 ran.feed_stops) (sym ran.status_is) in
-      let last : map command_of ran.final ≡ tick_by 0 (tick_of mux journal plan.cycles) ++ final_commands 0 =
-      last_made (tick_of mux journal plan.cycles) ran.player ran.sent ran.control_stop (feeds_stop None 1 ran.feed_stops) ran.final ran.failed stops.0 stops.1 stops.2 ran.last in
-      let fed = feeds_did number first second files journal ran.feed_stops have stops.2 ran.journal_is.feeds_did in
-      record {
-        legal = subst (λ (m : Mux). Legal m journal) same.0 ran.journal_is.legal;
-        control = control_did journal ran.final behind control_behind soak_controls ran.control_stop same.1 control_read stops.1
-            (subst (λ (m : Mux). map command_of ran.final ≡ tick_by 0 (tick_of m journal plan.cycles) ++ final_commands 0) same.0 last) ran.journal_is.control_did;
-        player = subst (λ (n : ℕ). CommandsAre journal 1 (turns_by 1 (ticks_of soak_mux journal n))) three
-            (subst (λ (m : Mux). CommandsAre journal 1 (turns_by 1 (ticks_of m journal plan.cycles))) same.0
-            (all_swapped mux ran.player ran.sent journal plan.cycles ran.failed stops.0 ran.journal_is.player_did));
-        first = fed.0;
-        second = fed.1;
-        others = ran.journal_is.others;
-      }
-
-  whole_run : HasMet (first ∷ second ∷ []) plan text files left faults_before faults_now before now journal observed Done → IsSoakRun number journal
-  whole_run (inl memory) = cc
-  whole_run (inr (inl none)) = absurd none.why
-  whole_run (inr (inr (mux, behind, whole, ran))) = jobs_ran mux behind whole ran
+jobs_ran : (number : ℕ) (call : LiveCall) (journal : List Entry) (observed : Observed) (mux : Mux) (behind : Ahead) → IsMade number call → described call.text ≡ Came (Ok mux) behind
+    → JobsRan call mux behind journal observed Done → IsSoakRun number journal
+jobs_ran number call journal observed mux behind made whole ran =
+    let is : described call.text ≡ Came (Ok soak_mux) control_behind = ap described made.text ∙ description_read.1 in
+    let same = same_mux mux soak_mux behind control_behind (described call.text) is whole in
+    let stops = done_stops ran.sent ran.control_stop (feeds_stop None 1 ran.feed_stops) (sym ran.status_is) in
+    let last : map command_of ran.final ≡ tick_by 0 (tick_of mux journal call.plan.cycles) ++ final_commands 0 =
+    last_made (tick_of mux journal call.plan.cycles) ran.player ran.sent ran.control_stop (feeds_stop None 1 ran.feed_stops) ran.final ran.failed stops.0 stops.1 stops.2 ran.last in
+    let fed = feeds_did number made.first made.second call.files journal ran.feed_stops made.feeds stops.2
+    (subst (λ (l : List (List ℕ)). FeedsDid call.files journal 1 l ran.feed_stops) made.paths ran.journal_is.feeds_did) in
+    record {
+      legal = subst (λ (m : Mux). Legal m journal) same.0 ran.journal_is.legal;
+      control = control_did journal ran.final behind control_behind soak_controls ran.control_stop same.1 control_read stops.1
+          (subst (λ (m : Mux). map command_of ran.final ≡ tick_by 0 (tick_of m journal call.plan.cycles) ++ final_commands 0) same.0 last) ran.journal_is.control_did;
+      player = subst (λ (n : ℕ). CommandsAre journal 1 (turns_by 1 (ticks_of soak_mux journal n))) made.cycles
+          (subst (λ (m : Mux). CommandsAre journal 1 (turns_by 1 (ticks_of m journal call.plan.cycles))) same.0
+          (all_swapped mux ran.player ran.sent journal call.plan.cycles ran.failed stops.0 ran.journal_is.player_did));
+      first = fed.0;
+      second = fed.1;
+      others = λ k le. ran.journal_is.others k (let z : length call.paths + 2 ≤ k = omega (arith, le, ap length made.paths) in z);
+    }
 
 pub runs_whole : DoneRunsAreWhole
-runs_whole number journal done =
-    whole_run number done.first done.second soak_text done.files done.feeds description_read.1 (record { cycles = 3; join = done.join; views = done.views }) refl done.left done.faults_before done.faults_now done.before done.now journal done.observed done.met
+runs_whole number journal done = by done.met
+  where
+    by : HasMet done.call journal done.observed Done → IsSoakRun number journal
+    by (inl memory) = cc
+    by (inr (inl none)) = absurd none.why
+    by (inr (inr (mux, behind, whole, ran))) = jobs_ran number done.call journal done.observed mux behind done.made whole ran
 
 pub done_counted : DoneRunsAreCounted
 done_counted number journal done = runs_counted number journal (runs_whole number journal done)

@@ -9,11 +9,12 @@ use Rattle.headend_jobs.specs.declared.live.LiveStop.{LiveStop}
 use Rattle.air_sending.specs.declared.send.SendStop.{SendStop}
 use Rattle.air_sending.specs.declared.send.SendStop.TheVariants as send
 use Rattle.headend_jobs.specs.Callers.{CommandsAre, PlayerSwapped}
-use Rattle.headend_jobs.specs.Live.{and_stop, control_stop, feed_stop, run_stop, sent_stop}
+use Rattle.headend_jobs.specs.Stops.{and_stop, control_stop, feed_stop, feeds_stop, run_stop, sent_stop}
 use Rattle.headend_jobs.specs.Ticking.{ticks_of, turns_by}
 use Rattle.epg_report.specs.declared.status.Status.TheVariants.{Done}
-use Rattle.epg_live.specs.Stops.{feeds_stop, live_status}
-use Rattle.epg_live.proofs.StopFacts.{and_none, done_none, no_control}
+use Rattle.epg_live.specs.Stops.{live_status}
+use Rattle.headend_live.proofs.Viewed.{and_none}
+use Rattle.epg_live.proofs.StopFacts.{done_none, no_control}
 
 no_feed : (f : ℕ) (stop : Option EditStop) → feed_stop f stop ≡ None → stop ≡ None
 no_feed f None e = refl

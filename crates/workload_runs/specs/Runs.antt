@@ -5,7 +5,7 @@ use Rattle.journal_model.specs.declared.step.Entry.{Entry}
 use Rattle.epg_report.specs.declared.status.Status.TheVariants.{Done}
 use Rattle.epg_live.specs.declared.reporting.Observed.{Observed}
 use Rattle.epg_live.specs.Decided.{AreWhole, text_status}
-use Rattle.epg_live.specs.Runs.{ReadFaults}
+use Rattle.epg_live.specs.Runs.{LiveCall}
 use Rattle.epg_live.specs.Ends.{HasMet}
 use Rattle.si_workload.specs.Texts.{mux_text, control_text, feed_text}
 use Rattle.workload_laws.specs.Journals.{IsCounted, IsSoakJournal}
@@ -31,21 +31,21 @@ MadeTextsAreDone =
     (number : ℕ) (first second : List ℕ) (files : Files) → HaveFeedTexts number first second files
     → text_status soak_text [] (first ∷ second ∷ []) files ≡ Done
 
--- A run of three cycles over these texts, heard from packet `join` on, met Done, and this is its journal.
-pub record HasMetDone (number : ℕ) (journal : List Entry) : Type 0 where
+-- A call of `live` with three cycles over these texts.
+pub record IsMade (number : ℕ) (call : LiveCall) : Type 0 where
   pub first : List ℕ
   pub second : List ℕ
-  pub files : Files
-  pub feeds : HaveFeedTexts number first second files
-  pub join : ℕ
-  pub views : List ℕ
-  pub left : Option (List ℕ)
-  pub faults_before : ReadFaults
-  pub faults_now : ReadFaults
-  pub before : Option (List ℕ)
-  pub now : Option (List ℕ)
+  pub paths : call.paths ≡ first ∷ second ∷ []
+  pub cycles : call.plan.cycles ≡ 3
+  pub text : call.text ≡ soak_text
+  pub feeds : HaveFeedTexts number first second call.files
+
+-- Such a call met Done, and this is its journal.
+pub record HasMetDone (number : ℕ) (journal : List Entry) : Type 0 where
+  pub call : LiveCall
+  pub made : IsMade number call
   pub observed : Observed
-  pub met : HasMet (first ∷ second ∷ []) (record { cycles = 3; join = join; views = views }) soak_text files left faults_before faults_now before now journal observed Done
+  pub met : HasMet call journal observed Done
 
 -- That journal is one of a whole run of the load;
 abbrev pub DoneRunsAreWhole : Type 0

@@ -10,7 +10,8 @@ use Rattle.epg_play.proofs.PlayRuns.{play_memory}
 use Rattle.epg_listen.proofs.ListenRunFacts.{listen_memory}
 use Rattle.epg_listen.specs.Leaves.{ListenRun}
 use Rattle.epg_live.specs.LiveRun.{LiveRun}
-use Rattle.epg_live.proofs.LiveRunFacts.{live_memory, none_asked}
+use Rattle.epg_live.proofs.LiveRunFacts.{live_memory}
+use Rattle.epg_live.proofs.MetFacts.{none_asked}
 use Rattle.epg_soak.specs.SoakRun.{SoakRun}
 use Rattle.epg_soak.proofs.SoakFacts.{soak_memory}
 use Rattle.epg_audit.specs.Leaves.{AuditRun}
