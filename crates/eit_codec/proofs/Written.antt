@@ -1,16 +1,16 @@
 -- The entry of an event shows that event.
-use Rattle.std.proofs.Common.{◌≡◌, ℕ, suc, ◌-◌, ◌<◌, ◌≤◌, Bool, true, List, [], ◌∷◌, ◌++◌, length, map, take, Option, Some, None, IfSome, refl, sym, ap, subst, ◌∙◌, append_assoc, arith, length-append, eq-eqb, if◌then◌else◌}
+use Rattle.std.proofs.Common.{◌≡◌, ℕ, suc, ◌-◌, ◌<◌, Bool, List, [], ◌∷◌, ◌++◌, length, map, Option, Some, None, IfSome, refl, sym, ap, ◌∙◌, append_assoc, arith, if◌then◌else◌}
 use Rattle.std.specs.Option.{option_or}
 use Rattle.std.specs.List.{flat_map, AllByRecursion}
 use Rattle.std.proofs.lemmas.Grind.{flat_map-append}
 use Rattle.std.proofs.lemmas.List.{append-nil}
-use Rattle.si_lists.proofs.Lists.{all_append}
-use Rattle.si_text.specs.Coding.{coded_text, coded_size}
-use Rattle.si_text.specs.Cutting.{pieces, ArePieces}
+use Rattle.std.proofs.lemmas.Slice.Eq.{bytes_eq-Decides}
+use Rattle.si_text.specs.Coding.{coded_text}
+use Rattle.si_text.specs.Cutting.{pieces}
 use Rattle.si_text.specs.Decoding.{IsKept}
 use Rattle.si_text.specs.declared.shown.Shown.{Shown}
 use Rattle.si_text.specs.declared.shown.Shown.TheVariants.{Text}
-use Rattle.si_text.proofs.PieceFacts.{pieces-join, pieces-kept, pieces-longest}
+use Rattle.si_text.proofs.PieceFacts.{pieces-join, pieces-kept}
 use Rattle.si_text.proofs.RoundTrip.{decoded-coded}
 use Rattle.guide_model.specs.declared.event.Event.{Event}
 use Rattle.guide_model.specs.declared.event.Genre.{Genre}
@@ -18,15 +18,15 @@ use Rattle.guide_model.specs.declared.event.Rating.{Rating}
 use Rattle.desc_parts.specs.declared.descriptors.RawDesc.{RawDesc}
 use Rattle.desc_event.specs.declared.short_event.ShortEvent.{ShortEvent}
 use Rattle.desc_event.specs.declared.extended_event.ExtendedPiece.{ExtendedPiece}
-use Rattle.desc_parts.specs.Descriptors.{descriptor_bytes, AreDescriptors}
+use Rattle.desc_parts.specs.Descriptors.{descriptor_bytes}
 use Rattle.desc_event.specs.ShortEvent.{short_event_body, short_event_in}
 use Rattle.desc_event.specs.ExtendedEvent.{extended_event_body}
 use Rattle.desc_event.specs.Content.{content_body, content_in, HasNibbles}
 use Rattle.desc_event.specs.ParentalRating.{parental_rating_body, parental_rating_in, HasThreeLetters}
 use Rattle.desc_event.specs.EventDescriptors.{numbered, event_descriptors, content_of, rating_of}
-use Rattle.desc_event.proofs.Entries.{content-reads_back, parental_rating-reads_back, length-content_body, length-parental_rating_body}
+use Rattle.desc_event.proofs.Entries.{content-reads_back, parental_rating-reads_back}
 use Rattle.desc_event.proofs.Fields.{short_event-reads_back, extended_event-reads_back}
-use Rattle.desc_event.proofs.Pieces.{length-coded_text, few_pieces}
+use Rattle.desc_event.proofs.Pieces.{few_pieces}
 use Rattle.table_entries.specs.First.{first_in}
 use Rattle.eit_codec.specs.ShownEvent as shows
 use Rattle.eit_codec.specs.Eit.{IsTyped, IsCodable, shown_event}
@@ -74,7 +74,7 @@ rating-bytes : (r : Option Rating) → rating_of r ≡ flat_map descriptor_bytes
 rating-bytes None = refl
 rating-bytes (Some r) = sym (append-nil (rating_of (Some r)))
 
-desc-bytes : (e : Event) → event_descriptors e ≡ flat_map descriptor_bytes (descs_of e)
+pub desc-bytes : (e : Event) → event_descriptors e ≡ flat_map descriptor_bytes (descs_of e)
 desc-bytes e =
     let short = descriptor_bytes (short_desc e) in
     let extended = flat_map descriptor_bytes (all_pieces e) in
@@ -87,59 +87,6 @@ desc-bytes e =
     ∙ append_assoc short extended (genres ++ rating)
     ∙ ap (λ (xs : List ℕ). short ++ (extended ++ xs)) (sym (flat_map-append descriptor_bytes (genre_descs e.genres) (rating_descs e.rating)))
     ∙ ap (λ (xs : List ℕ). short ++ xs) (sym (flat_map-append descriptor_bytes (all_pieces e) (genre_descs e.genres ++ rating_descs e.rating)))
-
--- ---- their lengths
-
-abbrev IsShort : RawDesc → Type 0
-IsShort d = length d.body < 256
-
-small : (text : List ℕ) (ps : List (List ℕ)) → ArePieces text ps → AllByRecursion (λ piece. coded_size piece ≤ 249) ps
-small text [] p = tt
-small text (piece ∷ ps) (rest, whole, cut, behind) =
-    (subst (λ (xs : List ℕ). coded_size xs ≤ 249) (ap (λ (xs : List ℕ). take (length piece) xs) whole ∙ take-front piece rest) cut.fits, small rest ps behind)
-  where
-    take-front : (xs ys : List ℕ) → take (length xs) (xs ++ ys) ≡ xs
-    take-front [] ys = refl
-    take-front (x ∷ xs) ys = ap (λ (zs : List ℕ). x ∷ zs) (take-front xs ys)
-
-piece-short : (n last : ℕ) (language : List ℕ) (ps : List (List ℕ)) → length language ≡ 3 → AllByRecursion (λ piece. coded_size piece ≤ 249) ps → AllByRecursion IsShort (piece_descs n last language ps)
-piece-short n last language [] three le = tt
-piece-short n last language (p ∷ ps) three le =
-    (omega (arith, three, le.0, length-coded_text p, length-append language (0 ∷ length (coded_text p) ∷ coded_text p)), piece-short (suc n) last language ps three le.1)
-
-genre-short : (genres : List Genre) → length genres ≤ 8 → AllByRecursion IsShort (genre_descs genres)
-genre-short [] le = tt
-genre-short (g ∷ genres) le = (omega (arith, le, length-content_body (g ∷ genres)), tt)
-
-rating-short : (r : Option Rating) → IfSome r HasThreeLetters → AllByRecursion IsShort (rating_descs r)
-rating-short None three = tt
-rating-short (Some r) three = (omega (arith, length-parental_rating_body (r ∷ []) (three, tt)), tt)
-
-short-short : (e : Event) → IsCodable e → IsTyped e → IsShort (short_desc e)
-short-short e p q =
-    let name = coded_text e.name in
-    let text = coded_text e.short in
-    omega (
-      arith,
-      p.limits.name,
-      p.limits.short,
-      q.language,
-      length-coded_text e.name,
-      length-coded_text e.short,
-      length-append (e.language ++ length name ∷ name) (length text ∷ text),
-      length-append e.language (length name ∷ name),
-    )
-
-pub descs-are : (e : Event) → IsCodable e → IsTyped e → AreDescriptors (event_descriptors e) (descs_of e)
-descs-are e p q = record {
-  whole = desc-bytes e;
-  lengths = (
-    short-short e p q,
-    all_append IsShort (all_pieces e) (genre_descs e.genres ++ rating_descs e.rating)
-        (piece-short 0 (length (pieces e.extended) - 1) e.language (pieces e.extended) q.language (small e.extended (pieces e.extended) (pieces-longest e.extended q.extended.utf8)))
-        (all_append IsShort (genre_descs e.genres) (rating_descs e.rating) (genre-short e.genres p.limits.genres) (rating-short e.rating q.rating)),
-  );
-}
 
 -- ---- what they show
 
@@ -167,17 +114,13 @@ rating-first (g ∷ genres) None three = refl
 rating-first [] (Some r) three = ap (λ o. shows.first_rating (option_or o None)) (parental_rating-reads_back (r ∷ []) (three, tt))
 rating-first (g ∷ genres) (Some r) three = ap (λ o. shows.first_rating (option_or o None)) (parental_rating-reads_back (r ∷ []) (three, tt))
 
-same_code-refl : (code : List ℕ) → shows.same_code code code ≡ true
-same_code-refl [] = refl
-same_code-refl (c ∷ code) = cc (eq-eqb c c refl, same_code-refl code)
-
 pieces-shown : (n last : ℕ) (language : List ℕ) (ps : List (List ℕ)) (ds : List RawDesc) → last < 16 → length language ≡ 3
     → shows.pieces_in language (piece_descs n last language ps ++ ds) ≡ map coded_text ps ++ shows.pieces_in language ds
 pieces-shown n last language [] ds lt three = refl
 pieces-shown n last language (p ∷ ps) ds lt three =
     let piece : ExtendedPiece = record { number = n; last = last; language = language; text = coded_text p } in
     ap (λ o. shows.text_if language o ++ shows.pieces_in language (piece_descs (suc n) last language ps ++ ds)) (extended_event-reads_back piece (record { last = lt; language = three }))
-    ∙ ap (λ (b : Bool). (if b then coded_text p ∷ [] else []) ++ shows.pieces_in language (piece_descs (suc n) last language ps ++ ds)) (same_code-refl language)
+    ∙ ap (λ (b : Bool). (if b then coded_text p ∷ [] else []) ++ shows.pieces_in language (piece_descs (suc n) last language ps ++ ds)) ((bytes_eq-Decides language language).1 refl)
     ∙ ap (λ xs. coded_text p ∷ xs) (pieces-shown (suc n) last language ps ds lt three)
 
 no-pieces : (language : List ℕ) (genres : List Genre) (r : Option Rating) → shows.pieces_in language (genre_descs genres ++ rating_descs r) ≡ []

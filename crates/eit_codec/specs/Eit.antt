@@ -1,20 +1,19 @@
 -- The body of an event information section, both ways (EN 300 468, 5.2.4).
-use Rattle.std.specs.Prelude.{◌≡◌, ℕ, ◌*◌, ◌<◌, List, [], ◌∷◌, ◌++◌, length, map, Some, IfSome}
+use Rattle.std.specs.Prelude.{◌≡◌, ℕ, ◌*◌, ◌<◌, Bool, nat_le, if◌then◌else◌, List, [], ◌∷◌, ◌++◌, length, drop, map, slice_index}
+use Rattle.std.specs.Prelude.{Option, Some, None, IfSome, is_some, option_map}
 use Rattle.std.specs.List.{flat_map, All}
-use Rattle.si_base.specs.Fields.{two}
+use Rattle.si_base.specs.Fields.{two, two_at}
 use Rattle.si_time.specs.Moments.{moment_bcd, duration_bcd}
 use Rattle.si_time.specs.Readings.{moment_from_bcd, duration_from_bcd}
 use Rattle.si_text.specs.declared.shown.Shown.TheVariants.{Text}
 use Rattle.si_text.specs.Decoding.{IsKept}
 use Rattle.guide_model.specs.declared.event.Event.{Event}
 use Rattle.guide_model.specs.declared.screen.ScreenEvent.{ScreenEvent}
-use Rattle.desc_parts.specs.declared.descriptors.RawDesc.{RawDesc}
-use Rattle.desc_parts.specs.Descriptors.{AreDescriptors}
 use Rattle.desc_event.specs.EventDescriptors.{event_descriptors, entry_size, IsWithinLimits}
 use Rattle.desc_event.specs.ParentalRating.{HasThreeLetters}
 use Rattle.eit_codec.specs.declared.eit.EitHead.{EitHead}
 use Rattle.eit_codec.specs.declared.eit.Eit.{Eit}
-use Rattle.eit_codec.specs.Entries.{EventEntry, entry_bytes, FitsEntry}
+use Rattle.table_entries.specs.Entries.{TableEntry, entry_bytes, Reads, made, entries_in}
 use Rattle.eit_codec.specs.ShownEvent.{event_of}
 
 -- ---- written
@@ -23,13 +22,11 @@ use Rattle.eit_codec.specs.ShownEvent.{event_of}
 abbrev pub head_bytes : EitHead → List ℕ
 head_bytes h = two h.stream ++ two h.original ++ h.segment_last ∷ h.last_table ∷ []
 
--- the entry of an event with this running_status; free_CA_mode is 0
-abbrev pub written_entry : ℕ → Event → EventEntry
+-- the entry of an event with this running_status: event_id 16, start_time 40, duration 24; running_status 3, and free_CA_mode 1, which is 0
+abbrev pub written_entry : ℕ → Event → TableEntry
 written_entry status e = record {
-  id = e.id;
-  time = moment_bcd e.start.0;
-  duration = duration_bcd e.seconds;
-  flags = 2 * status;
+  fields = two e.id ++ moment_bcd e.start.0 ++ duration_bcd e.seconds;
+  bits = 2 * status;
   descriptors = event_descriptors e;
 }
 
@@ -47,45 +44,33 @@ pub record IsCodable (e : Event) : Type 0 where
 
 -- ---- read
 
--- An entry whose times are decimal and exist, and whose descriptors show this event; its flags may have any value.
-pub record IsEvent (entry : EventEntry) (event : ScreenEvent) : Type 0 where
-  pub fits : FitsEntry entry
-  pub start : moment_from_bcd entry.time ≡ Some event.start.0
-  pub seconds : duration_from_bcd entry.duration ≡ Some event.seconds
-  pub descs : List RawDesc
-  pub loop : AreDescriptors entry.descriptors descs
-  pub shows : event ≡ event_of entry.id event.start.0 event.seconds descs
+-- start_time and duration of the fields of an entry
+abbrev pub time_of : List ℕ → List ℕ
+time_of fields = slice_index fields 2 ∷ slice_index fields 3 ∷ slice_index fields 4 ∷ slice_index fields 5 ∷ slice_index fields 6 ∷ []
 
--- entry by entry
-abbrev pub AreEvents : List EventEntry → List ScreenEvent → Type 0
-AreEvents [] [] = Unit {0}
-AreEvents [] (event ∷ events) = ⊥
-AreEvents (entry ∷ entries) [] = ⊥
-AreEvents (entry ∷ entries) (event ∷ events) = IsEvent entry event × AreEvents entries events
+abbrev pub duration_of : List ℕ → List ℕ
+duration_of fields = slice_index fields 7 ∷ slice_index fields 8 ∷ slice_index fields 9 ∷ []
 
--- The bytes are just the entries of these events.
-pub record AreEntries (bytes : List ℕ) (events : List ScreenEvent) : Type 0 where
-  pub entries : List EventEntry
-  pub whole : bytes ≡ flat_map entry_bytes entries
-  pub shown : AreEvents entries events
+-- the event that an entry shows, whatever running_status and free_CA_mode; none where its start or its duration is no time
+abbrev pub event_in : Reads ScreenEvent
+event_in fields descs =
+    made (λ start seconds. event_of (two_at 0 fields) start seconds descs) (moment_from_bcd (time_of fields)) (duration_from_bcd (duration_of fields))
 
--- the two fields of a head that are wider than a byte have their width
-pub record FitsHead (h : EitHead) : Type 0 where
-  pub stream : h.stream < 65536
-  pub original : h.original < 65536
+abbrev pub head_of : List ℕ → EitHead
+head_of body = record { stream = two_at 0 body; original = two_at 2 body; segment_last = slice_index body 4; last_table = slice_index body 5 }
 
--- The body is just a head and the entries of these events.
-pub record IsEit (body : List ℕ) (eit : Eit) : Type 0 where
-  pub fits : FitsHead eit.head
-  pub loop : List ℕ
-  pub whole : body ≡ head_bytes eit.head ++ loop
-  pub entries : AreEntries loop eit.events
+abbrev pub eit_with : EitHead → List ScreenEvent → Eit
+eit_with head events = record { head = head; events = events }
+
+-- a head, and entries of events; none where the body is no such entries
+abbrev pub eit_in : List ℕ → Option Eit
+eit_in body = if nat_le 6 (length body) then option_map (eit_with (head_of body)) (entries_in 10 event_in (drop 6 body)) else None
+
+-- whether bytes are such a body
+abbrev pub is_eit_body : List ℕ → Bool
+is_eit_body body = is_some (eit_in body)
 
 -- ---- laws
-
--- A body is of one value at most.
-abbrev pub EitIsUnique : Type 0
-EitIsUnique = (body : List ℕ) (a b : Eit) → IsEit body a → IsEit body b → a ≡ b
 
 -- An entry has the size that is known before it is written.
 abbrev pub EntryHasItsSize : Type 0
@@ -114,8 +99,13 @@ pub record IsTyped (e : Event) : Type 0 where
   pub extended : IsKept e.extended
   pub rating : IfSome e.rating HasThreeLetters
 
+-- the two fields of a head that are wider than a byte have their width
+pub record FitsHead (h : EitHead) : Type 0 where
+  pub stream : h.stream < 65536
+  pub original : h.original < 65536
+
 -- Reading a written body gives back its head and its events.
 abbrev pub EitReadsBack : Type 0
 EitReadsBack = (head : EitHead) (status : ℕ) (events : List Event)
     → FitsHead head → status < 8 → All IsCodable events → All IsTyped events
-    → IsEit (eit_body head status events) (record { head = head; events = map shown_event events })
+    → eit_in (eit_body head status events) ≡ Some (record { head = head; events = map shown_event events })

@@ -1,5 +1,3 @@
-pub mod Entries
 pub mod ShownEvent
 pub mod Eit
-pub mod Bodies
 pub mod Rows

@@ -1,7 +1,6 @@
 -- Worked bodies.
 use Rattle.std.specs.Prelude.{◌≡◌, [], ◌∷◌, ◌++◌, length, Some, None, refl, codes, List, ℕ}
 use Rattle.std.specs.Str.{chars, is_utf8}
-use Rattle.std.proofs.Common.{lit<}
 use Rattle.si_text.specs.Cutting.{pieces, first_pieces}
 use Rattle.si_text.specs.declared.shown.Shown.TheVariants.{Text, Hex}
 use Rattle.si_time.specs.Moments.{moment_bcd, duration_bcd}
@@ -10,9 +9,8 @@ use Rattle.guide_model.specs.declared.event.Event.{Event}
 use Rattle.guide_model.specs.declared.screen.ScreenEvent.{ScreenEvent}
 use Rattle.desc_parts.specs.declared.descriptors.RawDesc.{RawDesc}
 use Rattle.eit_codec.specs.declared.eit.EitHead.{EitHead}
-use Rattle.eit_codec.specs.Entries.{EventEntry, entry_bytes}
 use Rattle.eit_codec.specs.ShownEvent.{short_of, genres_of, rating_of, pieces_in, joined, event_of}
-use Rattle.eit_codec.specs.Eit.{eit_body, written_bytes, shown_event, IsEit}
+use Rattle.eit_codec.specs.Eit.{eit_body, written_bytes, shown_event, eit_in}
 
 -- ---- event 7 at 13:00:00 of day 0xC079, of half an hour, with the name News
 
@@ -55,18 +53,6 @@ row_body = refl
 abbrev news_desc : RawDesc
 news_desc = record { tag = 0x4D; body = 0x65 ∷ 0x6E ∷ 0x67 ∷ 0x04 ∷ 0x4E ∷ 0x65 ∷ 0x77 ∷ 0x73 ∷ 0x00 ∷ [] }
 
-abbrev news_entry : EventEntry
-news_entry = record {
-  id = 7;
-  time = 0xC0 ∷ 0x79 ∷ 0x13 ∷ 0x00 ∷ 0x00 ∷ [];
-  duration = 0x00 ∷ 0x30 ∷ 0x00 ∷ [];
-  flags = 0;
-  descriptors = 0x4D ∷ 0x09 ∷ 0x65 ∷ 0x6E ∷ 0x67 ∷ 0x04 ∷ 0x4E ∷ 0x65 ∷ 0x77 ∷ 0x73 ∷ 0x00 ∷ [];
-}
-
-abbrev bare_entry : EventEntry
-bare_entry = record { id = 7; time = 0xC0 ∷ 0x79 ∷ 0x13 ∷ 0x00 ∷ 0x00 ∷ []; duration = 0x00 ∷ 0x30 ∷ 0x00 ∷ []; flags = 15; descriptors = [] }
-
 abbrev bare : ScreenEvent
 bare = record {
   id = 7;
@@ -84,43 +70,14 @@ news_shown : event_of 7 4257234000 1800 (news_desc ∷ []) ≡ shown_event news
 unfolding chars
 news_shown = refl
 
-row_read : IsEit
+row_read : eit_in
     (0x04 ∷ 0x05 ∷ 0x23 ∷ 0x3A ∷ 0x07 ∷ 0x51
     ∷ 0x00 ∷ 0x07 ∷ 0xC0 ∷ 0x79 ∷ 0x13 ∷ 0x00 ∷ 0x00 ∷ 0x00 ∷ 0x30 ∷ 0x00 ∷ 0x00 ∷ 0x0B
     ∷ 0x4D ∷ 0x09 ∷ 0x65 ∷ 0x6E ∷ 0x67 ∷ 0x04 ∷ 0x4E ∷ 0x65 ∷ 0x77 ∷ 0x73 ∷ 0x00
     ∷ 0x00 ∷ 0x07 ∷ 0xC0 ∷ 0x79 ∷ 0x13 ∷ 0x00 ∷ 0x00 ∷ 0x00 ∷ 0x30 ∷ 0x00 ∷ 0xF0 ∷ 0x00 ∷ [])
-    (record { head = head; events = shown_event news ∷ bare ∷ [] })
+    ≡ Some (record { head = head; events = shown_event news ∷ bare ∷ [] })
 unfolding moment_from_bcd duration_from_bcd chars
-row_read = record {
-  fits = record { stream = lit< tt; original = lit< tt };
-  loop = entry_bytes news_entry ++ entry_bytes bare_entry;
-  whole = refl;
-  entries = record {
-    entries = news_entry ∷ bare_entry ∷ [];
-    whole = refl;
-    shown = (
-      record {
-        fits = record { id = lit< tt; time = refl; duration = refl; flags = lit< tt; descriptors = lit< tt };
-        start = refl;
-        seconds = refl;
-        descs = news_desc ∷ [];
-        loop = record { whole = refl; lengths = (lit< tt, tt) };
-        shows = refl;
-      },
-      (
-        record {
-          fits = record { id = lit< tt; time = refl; duration = refl; flags = lit< tt; descriptors = lit< tt };
-          start = refl;
-          seconds = refl;
-          descs = [];
-          loop = record { whole = refl; lengths = tt };
-          shows = refl;
-        },
-        tt,
-      ),
-    );
-  };
-}
+row_read = refl
 
 -- no time, and no duration
 no_hour : moment_from_bcd (0xC0 ∷ 0x79 ∷ 0x24 ∷ 0x00 ∷ 0x00 ∷ []) ≡ None

@@ -1,5 +1,5 @@
 -- What the descriptors of an event show.
-use Rattle.std.specs.Prelude.{ℕ, Bool, true, false, ◌==◌, ◌&&◌, List, [], ◌∷◌, ◌++◌, Option, Some, None, if◌then◌else◌, codes, ◌↔◌, ◌≡◌}
+use Rattle.std.specs.Prelude.{ℕ, ◌==◌, List, [], ◌∷◌, ◌++◌, Option, Some, None, if◌then◌else◌, codes, bytes_eq}
 use Rattle.std.specs.List.{concat}
 use Rattle.si_text.specs.Decoding.{decoded}
 use Rattle.si_text.specs.declared.shown.Shown.{Shown}
@@ -45,20 +45,10 @@ rating_of ds = first_rating (first_in 0x55 parental_rating_in ds)
 
 -- ---- the extended text
 
-abbrev pub same_code : List ℕ → List ℕ → Bool
-same_code [] [] = true
-same_code [] (b ∷ bs) = false
-same_code (a ∷ more) [] = false
-same_code (a ∷ more) (b ∷ bs) = a == b && same_code more bs
-
--- Codes are compared as values.
-abbrev pub CodesAreCompared : Type 0
-CodesAreCompared = (a b : List ℕ) → (same_code a b ≡ true) ↔ (a ≡ b)
-
 -- the coded text of a piece in this language
 abbrev pub text_if : List ℕ → Option ExtendedPiece → List (List ℕ)
 text_if language None = []
-text_if language (Some p) = if same_code p.language language then p.text ∷ [] else []
+text_if language (Some p) = if bytes_eq p.language language then p.text ∷ [] else []
 
 -- the coded texts of the pieces of a language, in the order in which they stand
 abbrev pub pieces_in : List ℕ → List RawDesc → List (List ℕ)

@@ -1,28 +1,14 @@
 // Laws of the written and the read bodies.
 ghost use Rattle.std.specs.Prelude.{◌≡◌, ◌<◌, length};
-ghost use Rattle.eit_codec.specs.ShownEvent.{CodesAreCompared};
-ghost use Rattle.eit_codec.specs.Bodies.{ReadBodiesAreBodies, BodiesCanBeRead};
-ghost use Rattle.eit_codec.specs.Eit.{EitIsUnique, EntryHasItsSize, EitReadsBack, IsTyped};
+ghost use Rattle.eit_codec.specs.Eit.{EntryHasItsSize, EitReadsBack, IsTyped};
 
 use guide_model::Event;
 
-/// A body is of one value at most; an entry has the size that `event_len` of `desc_event` tells; and reading a written
-/// body gives back its head and its events, all texts as `Text`.
+/// An entry has the size that `event_len` of `desc_event` gives, and reading a written body gives back its head and its
+/// events, all texts as `Text`.
 pub fn written_events_read_back()
-    ensures unique { EitIsUnique }
     ensures size { EntryHasItsSize }
     ensures reads_back { EitReadsBack }
-{}
-
-/// Bodies that `read_eit` reads are just those of which `is_eit_body` is true.
-pub fn read_bodies_are_bodies()
-    ensures bodies { ReadBodiesAreBodies }
-    ensures read { BodiesCanBeRead }
-{}
-
-/// Codes are compared as values: the comparison is true exactly where they are equal.
-pub fn codes_are_compared()
-    ensures { CodesAreCompared }
 {}
 
 /// An event has what each value of its type has, which reading back asks for.

@@ -1,11 +1,11 @@
 // What the descriptors of an event show.
-ghost use Rattle.std.specs.Prelude.{◌≡◌, [], IfOk};
+ghost use Rattle.std.specs.Prelude.{◌≡◌, [], bytes_eq, IfOk};
 ghost use Rattle.si_text.specs.declared.shown.Shown.TheVariants.{Text, Hex};
 ghost use Rattle.std.specs.List.{concat};
 ghost use Rattle.desc_event.specs.ShortEvent.{short_event_in};
 ghost use Rattle.desc_event.specs.Content.{content_in};
 ghost use Rattle.desc_event.specs.ParentalRating.{parental_rating_in};
-ghost use Rattle.eit_codec.specs.ShownEvent.{short_of, genres_of, rating_of, same_code, pieces_in, joined};
+ghost use Rattle.eit_codec.specs.ShownEvent.{short_of, genres_of, rating_of, pieces_in, joined};
 
 use desc_event::{
     RawDesc, ShortEvent, read_content, read_extended_event, read_parental_rating, read_short_event,
@@ -64,9 +64,9 @@ pub(crate) fn rating_of(alloc: Global, descs: &[RawDesc]) -> Result<Option<Ratin
 
 // Whether two codes of three letters are the same.
 fn same_code(a: &[u8; 3], b: &[u8; 3]) -> bool
-    ensures { result ≡ same_code a.now b.now }
+    ensures { result ≡ bytes_eq a.now b.now }
 {
-    a[0] == b[0] && a[1] == b[1] && a[2] == b[2]
+    a.as_slice() == b.as_slice()
 }
 
 /// The extended text in this language.

@@ -17,7 +17,7 @@ use Rattle.section_codec.specs.Contents.{numbers, last_number, Ascend}
 use Rattle.section_codec.specs.Segments.{segment_of, last_beside, segment_last_in, numbers_in_segment, and_numbers, segments_need, table_needs, told_by, segment_last_at}
 use Rattle.eit_codec.specs.declared.eit.EitHead.{EitHead}
 use Rattle.eit_codec.specs.declared.eit.Eit.{Eit}
-use Rattle.eit_codec.specs.Eit.{head_bytes, written_bytes, eit_body, IsCodable, IsTyped, IsEit, shown_event}
+use Rattle.eit_codec.specs.Eit.{head_bytes, written_bytes, eit_body, IsCodable, IsTyped, eit_in, shown_event}
 use Rattle.eit_codec.proofs.ReadBack.{entry-has_its_size, eit-reads_back}
 use Rattle.eit_segments.specs.declared.event.EventAt.{EventAt}
 use Rattle.eit_segments.specs.declared.piece.Piece.{Piece}
@@ -242,7 +242,7 @@ events_name bearer moment service table stream original =
 -- ---- bodies are read
 
 part_coded : (events part : List Event) → ((P : Event → Type 0) → All P events → All P part) → All IsCodable events → All IsTyped events → (bearer : Bearer) (segment_last last_table status : ℕ)
-    → bearer.stream < 65536 → bearer.original < 65536 → status < 8 → (eit : Eit) × IsEit (eit_body (eit_head bearer segment_last last_table) status part) eit
+    → bearer.stream < 65536 → bearer.original < 65536 → status < 8 → (eit : Eit) × (eit_in (eit_body (eit_head bearer segment_last last_table) status part) ≡ Some eit)
 part_coded events part of codable typed bearer segment_last last_table status stream original small =
     let h = eit_head bearer segment_last last_table in (
       record { head = h; events = map shown_event part },
@@ -264,7 +264,7 @@ events_read bearer moment service table stream original within typed =
         part_coded es (present_event moment es) (at_place (present_at moment (map at_of es)) es) codable types bearer 1 bearer.present 4 stream original (omega arith),
         (part_coded es (following_event moment es) (at_place (following_at moment (map at_of es)) es) codable types bearer 1 bearer.present 1 stream original (omega arith), tt),
       ),
-      all_to_map (λ (s : NumberedBody). (eit : Eit) × IsEit s.body eit) made ps
-          (each_piece (λ (p : Piece). (eit : Eit) × IsEit (made p).body eit)
+      all_to_map (λ (s : NumberedBody). (eit : Eit) × (eit_in s.body ≡ Some eit)) made ps
+          (each_piece (λ (p : Piece). (eit : Eit) × (eit_in (made p).body ≡ Some eit))
           (λ p. part_coded es (section_events p es) (λ P all. All-take P (p.to - p.from) (drop p.from es) (All-drop P p.from es all)) codable types bearer p.segment_last (bearer.sent (last_table_of moment es)) 0 stream original (omega arith)) ps),
     )

@@ -1,5 +1,5 @@
 -- What the event information tables of a service have in common (EN 300 468, 5.2.4).
-use Rattle.std.specs.Prelude.{ℕ, ◌+◌, Bool, if◌then◌else◌}
+use Rattle.std.specs.Prelude.{ℕ, ◌+◌}
 use Rattle.mux_model.specs.declared.mux.Mux.{Mux}
 use Rattle.section_codec.specs.declared.table.Key.{Key}
 use Rattle.eit_codec.specs.declared.eit.EitHead.{EitHead}

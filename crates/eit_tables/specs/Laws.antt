@@ -17,7 +17,7 @@ use Rattle.section_codec.specs.declared.table.NumberedBody.{NumberedBody}
 use Rattle.section_codec.specs.Contents.{last_number}
 use Rattle.section_codec.specs.Segments.{segment_last_in, GoBySegments}
 use Rattle.eit_codec.specs.declared.eit.Eit.{Eit}
-use Rattle.eit_codec.specs.Eit.{IsTyped, IsEit}
+use Rattle.eit_codec.specs.Eit.{IsTyped, eit_in}
 use Rattle.eit_tables.specs.Eit.{Bearer}
 use Rattle.eit_tables.specs.Present.{present_of}
 use Rattle.eit_tables.specs.Schedule.{schedule_of}
@@ -64,8 +64,8 @@ ScheduleIsFit =
 abbrev pub EventsAreRead : Type 0
 EventsAreRead =
     (b : Bearer) (moment : ℕ) (service : ServiceGuide) (table : ℕ) → b.stream < 65536 → b.original < 65536 → IsServiceWithin service → AllByRecursion IsTyped service.events
-    → AllByRecursion (λ (s : NumberedBody). (eit : Eit) × IsEit s.body eit) (present_of b moment service).sections
-    × AllByRecursion (λ (s : NumberedBody). (eit : Eit) × IsEit s.body eit) (schedule_of b moment service table).sections
+    → AllByRecursion (λ (s : NumberedBody). (eit : Eit) × (eit_in s.body ≡ Some eit)) (present_of b moment service).sections
+    × AllByRecursion (λ (s : NumberedBody). (eit : Eit) × (eit_in s.body ≡ Some eit)) (schedule_of b moment service table).sections
 
 -- a body that names a stream: it begins with transport_stream_id and original_network_id
 abbrev pub Names : Bearer → List ℕ → Type 0

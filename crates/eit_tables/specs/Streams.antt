@@ -1,5 +1,5 @@
 -- Streams, as the code names them.
-use Rattle.std.specs.Prelude.{if◌then◌else◌, ℕ, ◌+◌, Bool}
+use Rattle.std.specs.Prelude.{if◌then◌else◌, ◌+◌}
 use Rattle.eit_tables.specs.declared.events.Stream.{Stream}
 use Rattle.eit_tables.specs.Eit.{Bearer}
 

@@ -15,7 +15,8 @@ use Rattle.nit_sdt.specs.declared.sdt.SdtService.{SdtService}
 use Rattle.sub_collect.specs.Marks.{Taken, content_over, run_over}
 use Rattle.sub_collect.specs.Parts.{part_of, held}
 use Rattle.guide_screen.specs.View.{sections, pmt_key, eit_key, table_at}
-use Rattle.guide_screen.specs.Reading.{events_in, services_in, programs_in, streams_in, value_in}
+use Rattle.pat_pmt.specs.Pmt.{pmt_in}
+use Rattle.guide_screen.specs.Reading.{events_in, value_in}
 use Rattle.guide_screen.specs.declared.need.Need.{Need}
 use Rattle.guide_screen.specs.Needs.{Want, unless, unmet, unmet_of, want_pmt, want_present, want_schedule, want_table, want_service, schedule_tables, with_service, by_service, last_beside, last_table, tables_to}
 use Rattle.guide_screen.specs.Screen.{pid_in, pmt_pid, pmt_of, events_at, schedule_of}
@@ -271,7 +272,7 @@ module _ (past : List Taken) (P : Parts) (are : ArePartsOver past P) where
     where
       on : (pid : Option ℕ) → ((p : ℕ) → pid ≡ Some p → IsSome (P.view.content (pmt_key p service))) → pmt_held P.part service pid ≡ pmt_of P.view.content service pid
       on None f = refl
-      on (Some p) f = ap (value_in Rattle.guide_screen.specs.Reading.pmt_in 0) (whole_same (pmt_key p service) (f p refl))
+      on (Some p) f = ap (value_in pmt_in 0) (whole_same (pmt_key p service) (f p refl))
 
       go : (b : Bool) → (service == 0) ≡ b → pmt_held P.part service (if b then None else pid_in service es) ≡ pmt_of P.view.content service (if b then None else pid_in service es)
       go true e = refl

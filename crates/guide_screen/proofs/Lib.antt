@@ -1,5 +1,3 @@
-pub mod Entries
-pub mod Saying
 pub mod Hearing
 pub mod Ordering
 pub mod Lists

@@ -14,7 +14,10 @@ use Rattle.eit_codec.specs.declared.eit.Eit.{Eit}
 use Rattle.guide_screen.specs.declared.need.Need.TheVariants.{Pat, Nit, Sdt, Clock, Pmt, Present, Schedule}
 use Rattle.guide_screen.specs.declared.need.Heard.TheVariants.{Whole, Wanting}
 use Rattle.guide_screen.specs.View.{View, pmt_key, eit_key}
-use Rattle.guide_screen.specs.Reading.{pmt_in, nit_in, sdt_in, eit_in}
+use Rattle.pat_pmt.specs.Pmt.{pmt_in}
+use Rattle.nit_sdt.specs.Nit.{nit_in}
+use Rattle.nit_sdt.specs.Sdt.{sdt_in}
+use Rattle.eit_codec.specs.Eit.{eit_in}
 use Rattle.guide_screen.specs.Needs.{by_service}
 use Rattle.guide_screen.specs.Screen.{heard_of}
 

@@ -21,7 +21,10 @@ use Rattle.guide_screen.specs.declared.need.Need.{Need}
 use Rattle.guide_screen.specs.declared.need.Heard.{Heard}
 use Rattle.guide_screen.specs.declared.need.Heard.TheVariants.{Whole, Wanting}
 use Rattle.guide_screen.specs.View.{View, sections, sdt_of, pmt_key, table_at}
-use Rattle.guide_screen.specs.Reading.{pmt_in, nit_in, eit_in, streams_in, services_in, events_in, value_in}
+use Rattle.pat_pmt.specs.Pmt.{pmt_in}
+use Rattle.nit_sdt.specs.Nit.{nit_in}
+use Rattle.eit_codec.specs.Eit.{eit_in}
+use Rattle.guide_screen.specs.Reading.{streams_in, services_in, events_in, value_in}
 use Rattle.guide_screen.specs.Needs.{programs_of, by_service, services_of, last_table, tables_to, needs}
 
 -- ---- a service

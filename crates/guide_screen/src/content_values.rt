@@ -1,14 +1,18 @@
 // What contents say: a section by its number, and all sections in order.
 ghost use Rattle.std.specs.Prelude.{◌≡◌, ◌++◌, [], option_map, unwrap_or, IfOk, OnOk};
 ghost use Rattle.section_codec.specs.Contents.{part_in};
-ghost use Rattle.guide_screen.specs.Reading.{pmt_in, nit_in, sdt_in, eit_in, programs_in, streams_in, services_in, events_in, value_in};
+ghost use Rattle.guide_screen.specs.Reading.{programs_in, streams_in, services_in, events_in, value_in};
+ghost use Rattle.pat_pmt.specs.Pmt.{pmt_in};
+ghost use Rattle.nit_sdt.specs.Nit.{nit_in};
+ghost use Rattle.nit_sdt.specs.Sdt.{sdt_in};
+ghost use Rattle.eit_codec.specs.Eit.{eit_in};
 ghost use Rattle.guide_screen.specs.Needs.{last_table};
 ghost use Rattle.guide_screen.specs.Screen.{first_of, event_at, network_name};
 
-use crate::bodies::{eit_in, nit_in, pmt_in, sdt_in};
+use eit_codec::read_eit;
 use guide_model::{ScreenEvent, ScreenEvents};
-use nit_sdt::{NitStream, NitStreams, SdtService, SdtServices};
-use pat_pmt::{PatEntry, Pmt, read_pat};
+use nit_sdt::{NitStream, NitStreams, SdtService, SdtServices, read_nit, read_sdt};
+use pat_pmt::{PatEntry, Pmt, read_pat, read_pmt};
 use section_codec::NumberedBody;
 use si_base::Items;
 use si_text::{Shown, Txt};
@@ -31,7 +35,7 @@ pub fn pmt_told(alloc: Global, content: &[NumberedBody]) -> Result<Option<Pmt>, 
     ensures { IfOk result (λ pmt. pmt ≡ value_in pmt_in 0 content.now) }
 {
     match part_in(content, 0) {
-        Some(body) => pmt_in(alloc, body),
+        Some(body) => read_pmt(alloc, body),
         None => Ok(None),
     }
 }
@@ -41,7 +45,7 @@ pub fn network_name(alloc: Global, content: &[NumberedBody]) -> Result<Shown, Al
     ensures { IfOk result (λ name. name ≡ network_name content.now) }
 {
     if let Some(body) = part_in(content, 0)
-        && let Some(nit) = nit_in(alloc, body)?
+        && let Some(nit) = read_nit(alloc, body)?
     {
         return Ok(nit.name);
     }
@@ -59,7 +63,7 @@ pub fn event_at(
     let Some(body) = part_in(content, number) else {
         return Ok(None);
     };
-    match eit_in(alloc, body)? {
+    match read_eit(alloc, body)? {
         Some(eit) => Ok(first_of(eit.events)),
         None => Ok(None),
     }
@@ -125,7 +129,7 @@ pub fn streams_in(alloc: Global, content: &[NumberedBody]) -> Result<Vec<NitStre
 fn streams_of_body(alloc: Global, body: &[u8]) -> Result<Option<NitStreams>, AllocError>
     ensures { IfOk result (λ streams. streams ≡ option_map (λ nit. nit.streams) (nit_in body.now)) }
 {
-    match nit_in(alloc, body)? {
+    match read_nit(alloc, body)? {
         Some(nit) => Ok(Some(nit.streams)),
         None => Ok(None),
     }
@@ -148,7 +152,7 @@ pub fn services_in(alloc: Global, content: &[NumberedBody]) -> Result<Vec<SdtSer
 fn services_of_body(alloc: Global, body: &[u8]) -> Result<Option<SdtServices>, AllocError>
     ensures { IfOk result (λ services. services ≡ option_map (λ sdt. sdt.services) (sdt_in body.now)) }
 {
-    match sdt_in(alloc, body)? {
+    match read_sdt(alloc, body)? {
         Some(sdt) => Ok(Some(sdt.services)),
         None => Ok(None),
     }
@@ -171,7 +175,7 @@ pub fn put_events(
 fn events_of_body(alloc: Global, body: &[u8]) -> Result<Option<ScreenEvents>, AllocError>
     ensures { IfOk result (λ events. events ≡ option_map (λ eit. eit.events) (eit_in body.now)) }
 {
-    match eit_in(alloc, body)? {
+    match read_eit(alloc, body)? {
         Some(eit) => Ok(Some(eit.events)),
         None => Ok(None),
     }

@@ -3,13 +3,12 @@
 //!
 //! `heard_guide` gives exactly the needs that are not met, in order, or else the whole screen, with
 //! the moment of the last TDT, the offsets of the last TOT, and the other streams that were
-//! described. It is whole exactly where nothing is needed (`screens_need_nothing`). `specs/Needs.antt` says what is needed, `specs/Screen.antt`
-//! what is shown, and `specs/Reading.antt` what table bodies say; that agrees with the readers
-//! (`bodies_say_what_is_read`). Worked screens stand in `specs/Rows.antt`. Not promised: that it
-//! fails only where memory runs out.
+//! described. It is whole exactly where nothing is needed (`screens_need_nothing`).
+//! `specs/Needs.antt` says what is needed, `specs/Screen.antt` what is shown, and
+//! `specs/Reading.antt` what the sections of a table say together. Worked screens stand in
+//! `specs/Rows.antt`. Not promised: that it fails only where memory runs out.
 #![tactic(auto)]
 
-mod bodies;
 mod content_values;
 mod contents;
 mod heard;
@@ -26,7 +25,7 @@ pub use content_values::{
 };
 pub use contents::{Latest, eit_key, pmt_key};
 pub use heard::heard_guide;
-pub use laws::{bodies_say_what_is_read, screens_need_nothing};
+pub use laws::screens_need_nothing;
 pub use need::{Heard, Need, Needs};
 pub use needs::{needs_of, tables_to};
 pub use others::{cable_in, is_other, other_stream};

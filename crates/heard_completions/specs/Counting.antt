@@ -9,9 +9,11 @@ use Rattle.section_codec.specs.Tables.{is_eit, is_counted}
 use Rattle.section_codec.specs.Section.{section_in}
 use Rattle.section_codec.specs.Keys.{key_in}
 use Rattle.section_codec.specs.Segments.{segment_last_in}
-use Rattle.pat_pmt.specs.Bodies.{is_pat_body, is_pmt_body}
-use Rattle.nit_sdt.specs.Bodies.{is_nit_body, is_sdt_body}
-use Rattle.eit_codec.specs.Bodies.{is_eit_body}
+use Rattle.pat_pmt.specs.Pat.{is_pat_body}
+use Rattle.pat_pmt.specs.Pmt.{is_pmt_body}
+use Rattle.nit_sdt.specs.Nit.{is_nit_body}
+use Rattle.nit_sdt.specs.Sdt.{is_sdt_body}
+use Rattle.eit_codec.specs.Eit.{is_eit_body}
 use Rattle.ts_demux.specs.declared.section.RawSection.{RawSection}
 use Rattle.sub_collect.specs.Runs.{Counted, counted}
 

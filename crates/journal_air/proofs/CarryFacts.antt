@@ -17,9 +17,11 @@ use Rattle.section_codec.specs.Keys.{key_in}
 use Rattle.section_codec.specs.SubTables.{header_of}
 use Rattle.section_codec.specs.Tables.{is_eit, is_pat, is_pmt, is_nit, is_sdt, is_events}
 use Rattle.section_codec.specs.declared.table.Naming.TheVariants.{Extension, Network, Stream}
-use Rattle.pat_pmt.specs.Bodies.{is_pat_body, is_pmt_body}
-use Rattle.nit_sdt.specs.Bodies.{is_nit_body, is_sdt_body}
-use Rattle.eit_codec.specs.Bodies.{is_eit_body}
+use Rattle.pat_pmt.specs.Pat.{is_pat_body}
+use Rattle.pat_pmt.specs.Pmt.{is_pmt_body}
+use Rattle.nit_sdt.specs.Nit.{is_nit_body}
+use Rattle.nit_sdt.specs.Sdt.{is_sdt_body}
+use Rattle.eit_codec.specs.Eit.{is_eit_body}
 use Rattle.eit_tables.proofs.EntryFacts.{typed_small}
 use Rattle.time_tables.specs.LocalOffsets.{FitsOffset}
 use Rattle.version_book.specs.Airings.{AiredTables}

@@ -1,16 +1,15 @@
 -- The keys of all airings of a journal.
-use Rattle.std.proofs.Common.{◌≡◌, ℕ, zero, suc, ◌+◌, ◌*◌, ◌<◌, ◌≤◌, ◌==◌, ◌⊎◌, ⊎_elim, inl, inr, List, [], ◌∷◌, ◌++◌, Bool, true, false, ◌||◌, length, map, refl, sym, ap, ◌∙◌, subst, arith, length-append, eq-eqb, eqb-true}
+use Rattle.std.proofs.Common.{◌≡◌, ℕ, zero, suc, ◌+◌, ◌*◌, ◌<◌, ◌≤◌, ◌==◌, ⊎_elim, List, [], ◌∷◌, ◌++◌, Bool, true, false, ◌||◌, length, map, refl, sym, ap, ◌∙◌, arith, length-append, eq-eqb, eqb-true}
 use Rattle.std.specs.Prelude.{flat_map}
 use Rattle.std.specs.List.{AllByRecursion, list_any, range_with_len}
-use Rattle.std.specs.Set.{is_member, distinct_count}
+use Rattle.std.specs.Set.{is_member}
 use Rattle.std.proofs.Math.Bool.{or-true}
 use Rattle.std.proofs.lemmas.Bool.{cases_eq}
 use Rattle.std.proofs.lemmas.List.{length-map}
 use Rattle.std.proofs.lemmas.List.Folds.{list_any-append}
 use Rattle.std.proofs.lemmas.Map.Made.{distinct_count-le}
 use Rattle.si_lists.proofs.Distinct.{distinct_count-within, is_member-within}
-use Rattle.si_lists.proofs.Lists.{all_flat, all_map, all_of_map, all_to_map}
-use Rattle.si_time.specs.declared.moment.Moment.{Moment}
+use Rattle.si_lists.proofs.Lists.{all_flat, all_map, all_to_map}
 use Rattle.guide_model.specs.declared.guide.Guide.{Guide}
 use Rattle.guide_model.specs.declared.guide.ServiceGuide.{ServiceGuide}
 use Rattle.mux_model.specs.declared.mux.MuxService.{MuxService}
@@ -31,9 +30,8 @@ use Rattle.publication.specs.Programs.{pat_key, pmt_key}
 use Rattle.publication.specs.Network.{nit_key}
 use Rattle.publication.proofs.FitFacts.{each_pmt, each_sub_table}
 use Rattle.publication.proofs.PartFacts.{by_ids, by_remote_ids}
-use Rattle.journal_model.specs.declared.step.Entry.{Entry}
 use Rattle.desk_core.specs.Publications.{publication, swaps}
-use Rattle.journal_air.specs.Air.{airing_at, airings}
+use Rattle.journal_air.specs.Air.{airings}
 use Rattle.journal_air.specs.Laws.{AiringsHaveFewKeys}
 use Rattle.journal_air.proofs.CarryFacts.{each_airing}
 

@@ -1,4 +1,3 @@
 pub mod Words
 pub mod Networks
 pub mod Services
-pub mod Bodies

@@ -1,28 +1,27 @@
--- Written services read back, and a body is of one value at most.
-use Rattle.std.proofs.Common.{◌≡◌, ◌∙◌, ℕ, ◌+◌, ◌*◌, ◌/◌, ◌%◌, Bool, true, false, List, [], ◌∷◌, ◌++◌, length, map, drop, None, refl, sym, ap, arith, length-append}
-use Rattle.std.specs.Prelude.{◌==◌}
+-- Written services read back.
+use Rattle.std.proofs.Common.{◌≡◌, ◌∙◌, ℕ, ◌+◌, ◌*◌, ◌/◌, ◌%◌, ◌≤◌, Bool, true, false, List, [], ◌∷◌, length, drop, Option, Some, None, refl, sym, ap, ap₂, arith, le-leb, length-append}
+use Rattle.std.specs.Prelude.{◌==◌, nat_le, is_some, option_map, option_and_then}
 use Rattle.std.specs.Option.{option_or, unwrap_or}
-use Rattle.std.specs.List.{flat_map, AllByRecursion}
-use Rattle.std.proofs.lemmas.List.{append-nil}
+use Rattle.std.specs.List.{flat_map}
+use Rattle.std.proofs.lemmas.Bool.{cond-true}
+use Rattle.std.proofs.lemmas.List.{map-id}
 use Rattle.std.proofs.lemmas.List.Concat.{length-flat_map}
+use Rattle.std.proofs.lemmas.List.Elements.{recursion_from_All}
+use Rattle.si_lists.proofs.Lists.{all_map}
+use Rattle.si_lists.proofs.Outcomes.{mapped}
+use Rattle.si_base.specs.Fields.{two_at}
 use Rattle.si_text.specs.declared.shown.Shown.TheVariants.{Text}
 use Rattle.si_text.specs.Decoding.{shown_bytes}
+use Rattle.desc_parts.specs.declared.descriptors.RawDesc.{RawDesc}
 use Rattle.desc_service.specs.declared.service.ServiceText.{ServiceText}
 use Rattle.desc_service.specs.Service.{service_body, service_descriptor, ServiceReadsBack}
-use Rattle.table_entries.specs.Entries.{entry_bytes, FitsEntry, IsReadAs, AreReadAs}
-use Rattle.table_entries.proofs.Reading.{entries-unique}
+use Rattle.table_entries.specs.Entries.{FitsEntry, value_in, entries_in}
+use Rattle.table_entries.proofs.Written.{one_back, parts_of, entries_back, entries_read}
 use Rattle.nit_sdt.proofs.Words.{word_back}
 use Rattle.nit_sdt.specs.declared.sdt.SdtService.{SdtService}
 use Rattle.nit_sdt.specs.declared.sdt.Sdt.{Sdt}
-use Rattle.nit_sdt.specs.Sdt.{flag_bit, text_of, service_entry, service_bytes, service_with, service_of, HasServiceWidths, ServiceHasItsSize, SdtHasItsSize, SdtIsUnique, SdtReadsBack}
-
--- ---- one value at most
-
-same_sdt : (a b : Sdt) → a.original ≡ b.original → a.services ≡ b.services → a ≡ b
-same_sdt a b o s = ap (λ (n : ℕ). record { original = n; services = a.services }) o ∙ ap (λ (xs : List SdtService). record { original = b.original; services = xs }) s
-
-pub sdt-unique : SdtIsUnique
-sdt-unique body a b p q = same_sdt a b (p.original ∙ sym q.original) (entries-unique 3 service_of (drop 3 body) a.services b.services p.services q.services)
+use Rattle.nit_sdt.specs.Sdt.{flag_bit, text_of, service_entry, service_bytes, service_with, sdt_service_in, sdt_with, sdt_in, sdt_body, FitsService, HasServiceWidths, ServiceHasItsSize, SdtHasItsSize}
+use Rattle.nit_sdt.specs.Sdt.{SdtReadsBack, WrittenSdtsAreRead}
 
 -- ---- sizes
 
@@ -57,35 +56,52 @@ same_service n m a b c d t e f g = λ i. record { service = e i; schedule = f i;
 abbrev no_text : ServiceText
 no_text = record { kind = 0; provider = Text []; name = Text [] }
 
-service_read : ServiceReadsBack → (s : SdtService) → HasServiceWidths s → IsReadAs service_of (service_entry s) s
-service_read back s fit = record {
-  descs = record { tag = 0x48; body = service_body (text_of s) } ∷ [];
-  loop = record { whole = sym (append-nil (service_descriptor (text_of s))); lengths = (omega (arith, fit.fits, length-service_descriptor s), tt) };
-  shows =
-      sym (same_service _ s.service _ s.schedule _ s.present (text_of s) (word_back s.service fit.service) (schedule_back s.schedule s.present) (present_back s.schedule s.present))
-      ∙ sym (ap (λ read. service_with (service_entry s).fields (unwrap_or (option_or read None) no_text)) (back (text_of s) fit.shown));
-}
+abbrev text_desc : SdtService → RawDesc
+text_desc s = record { tag = 0x48; body = service_body (text_of s) }
 
-services_fit : (ss : List SdtService) → AllByRecursion HasServiceWidths ss → AllByRecursion (FitsEntry 3) (map service_entry ss)
-services_fit [] fit = tt
-services_fit (s ∷ ss) fit = (record { fields = refl; bits = omega arith; descriptors = omega (arith, fit.0.fits, length-service_descriptor s) }, services_fit ss fit.1)
+-- what is read of a service, by its descriptor
+read_by : (s : SdtService) → value_in sdt_service_in (parts_of (service_entry s)) ≡ sdt_service_in (service_entry s).fields (text_desc s ∷ [])
+read_by s = ap (option_and_then (sdt_service_in (service_entry s).fields)) (one_back (text_desc s))
 
-services_read : ServiceReadsBack → (ss : List SdtService) → AllByRecursion HasServiceWidths ss → AreReadAs service_of (map service_entry ss) ss
-services_read back [] fit = tt
-services_read back (s ∷ ss) fit = (service_read back s fit.0, services_read back ss fit.1)
+service_fits : (s : SdtService) → FitsService s → FitsEntry 3 (service_entry s)
+service_fits s fits = record { fields = refl; bits = omega arith; descriptors = omega (arith, fits, length-service_descriptor s) }
 
-pub services_whole : (ss : List SdtService) → flat_map service_bytes ss ≡ flat_map entry_bytes (map service_entry ss)
-services_whole [] = refl
-services_whole (s ∷ ss) = ap (λ (xs : List ℕ). service_bytes s ++ xs) (services_whole ss)
+abbrev IsBack : SdtService → Type 0
+IsBack s = FitsEntry 3 (service_entry s) × (value_in sdt_service_in (parts_of (service_entry s)) ≡ Some s)
+
+each_back : ServiceReadsBack → (s : SdtService) → HasServiceWidths s → IsBack s
+each_back back s has = (
+  service_fits s has.fits,
+  read_by s
+      ∙ ap (λ read. Some (service_with (service_entry s).fields (unwrap_or (option_or read None) no_text))) (back (text_of s) has.shown)
+      ∙ ap (λ x. Some x) (same_service _ s.service _ s.schedule _ s.present (text_of s) (word_back s.service has.service)
+      (schedule_back s.schedule s.present) (present_back s.schedule s.present)),
+)
+
+abbrev IsRead : SdtService → Type 0
+IsRead s = FitsEntry 3 (service_entry s) × (is_some (value_in sdt_service_in (parts_of (service_entry s))) ≡ true)
+
+each_read : (s : SdtService) → FitsService s → IsRead s
+each_read s fits = (service_fits s fits, ap is_some (read_by s))
+
+-- the entries after a head decide
+pub sdt_test : (body : List ℕ) → 3 ≤ length body → is_some (entries_in 3 sdt_service_in (drop 3 body)) ≡ is_some (sdt_in body)
+sdt_test body le =
+    mapped (sdt_with (two_at 0 body)) (entries_in 3 sdt_service_in (drop 3 body))
+    ∙ sym (ap is_some (cond-true (nat_le 3 (length body)) _ None (le-leb 3 (length body) le)))
+
+-- a written body is read by its services
+sdt_by : (sdt : Sdt) → sdt_in (sdt_body sdt) ≡ option_map (sdt_with (256 * (sdt.original / 256 % 256) + sdt.original % 256)) (entries_in 3 sdt_service_in (flat_map service_bytes sdt.services))
+sdt_by sdt = cond-true (nat_le 3 (length (sdt_body sdt))) _ None (le-leb 3 (length (sdt_body sdt)) (omega arith))
 
 pub sdt-reads_back : ServiceReadsBack → SdtReadsBack
-sdt-reads_back back sdt fits = record {
-  head = omega arith;
-  original = sym (word_back sdt.original fits.original);
-  services = record {
-    entries = map service_entry sdt.services;
-    whole = services_whole sdt.services;
-    fits = services_fit sdt.services fits.services;
-    read = services_read back sdt.services fits.services;
-  };
-}
+sdt-reads_back back sdt fits =
+    sdt_by sdt
+    ∙ ap₂ (λ (original : ℕ) (services : Option (List SdtService)). option_map (sdt_with original) services) (word_back sdt.original fits.original)
+    (entries_back 3 sdt_service_in service_entry (λ s. s) sdt.services (all_map HasServiceWidths IsBack (each_back back) sdt.services fits.services)
+    ∙ ap (λ (ss : List SdtService). Some ss) (map-id sdt.services))
+
+pub written_sdts : WrittenSdtsAreRead
+written_sdts sdt fits =
+    ap is_some (sdt_by sdt) ∙ sym (mapped _ (entries_in 3 sdt_service_in (flat_map service_bytes sdt.services)))
+    ∙ entries_read 3 sdt_service_in service_entry sdt.services (all_map FitsService IsRead each_read sdt.services (recursion_from_All FitsService sdt.services fits))

@@ -1,4 +1,3 @@
 pub mod Nit
 pub mod Sdt
-pub mod Bodies
 pub mod Rows

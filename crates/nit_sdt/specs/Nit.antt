@@ -1,19 +1,19 @@
 -- The body of a section of the network information table, both ways (EN 300 468, 5.2.1).
-use Rattle.std.specs.Prelude.{◌≡◌, ℕ, ◌+◌, ◌*◌, ◌<◌, ◌≤◌, List, [], ◌++◌, length, sum_by, Option, Some, None, IfSome}
+use Rattle.std.specs.Prelude.{◌≡◌, ℕ, ◌+◌, ◌*◌, ◌%◌, ◌<◌, ◌≤◌, Bool, true, ◌&&◌, ◌==◌, nat_le, if◌then◌else◌, List, [], ◌++◌, length, drop, sum_by}
+use Rattle.std.specs.Prelude.{Option, Some, None, IfSome, is_some, option_and_then}
 use Rattle.std.specs.Option.{unwrap_or}
-use Rattle.std.specs.List.{flat_map, AllByRecursion}
+use Rattle.std.specs.List.{flat_map, All, AllByRecursion}
 use Rattle.si_base.specs.Fields.{two, two_at}
 use Rattle.si_text.specs.Decoding.{shown_bytes, IsAsDecoded}
 use Rattle.si_text.specs.declared.shown.Shown.{Shown}
 use Rattle.si_text.specs.declared.shown.Shown.TheVariants.{Text}
 use Rattle.guide_model.specs.declared.stream.Cable.{Cable}
 use Rattle.desc_parts.specs.declared.descriptors.RawDesc.{RawDesc}
-use Rattle.desc_parts.specs.Descriptors.{AreDescriptors}
 use Rattle.desc_service.specs.declared.service_list.ServiceKind.{ServiceKind}
 use Rattle.desc_service.specs.CableDelivery.{cable_delivery_system, cable_in, FitsCable}
 use Rattle.desc_service.specs.NetworkName.{network_name, network_name_in}
 use Rattle.desc_service.specs.ServiceList.{service_list, service_list_in}
-use Rattle.table_entries.specs.Entries.{TableEntry, entry_bytes, FitsEntry, AreEntries}
+use Rattle.table_entries.specs.Entries.{TableEntry, entry_bytes, Reads, made, split_in, value_in, entries_in}
 use Rattle.table_entries.specs.First.{first_in}
 use Rattle.nit_sdt.specs.declared.nit.NitStream.{NitStream}
 use Rattle.nit_sdt.specs.declared.nit.Nit.{Nit}
@@ -67,35 +67,38 @@ cable_of descs = first_in 0x44 cable_in descs
 abbrev pub services_of : List RawDesc → List ServiceKind
 services_of descs = unwrap_or (first_in 0x41 service_list_in descs) []
 
--- what an entry says of a stream, whatever its reserved bits
-abbrev pub stream_of : List ℕ → ℕ → List RawDesc → NitStream
-stream_of fields bits descs = record { stream = two_at 0 fields; original = two_at 2 fields; cable = cable_of descs; services = services_of descs }
+-- the name that the descriptors of a network say
+abbrev pub name_in : Reads Shown
+name_in fields descs = Some (name_of descs)
 
--- The bytes are just these behind their length of 12 bits, whatever the four bits before it.
-pub record IsLoop (bytes loop : List ℕ) : Type 0 where
-  pub bits : ℕ
-  pub whole : bytes ≡ two (4096 * bits + length loop) ++ loop
-  pub width : bits < 16
-  pub within : length loop < 4096
+-- what an entry says of a stream
+abbrev pub stream_of : List ℕ → List RawDesc → NitStream
+stream_of fields descs = record { stream = two_at 0 fields; original = two_at 2 fields; cable = cable_of descs; services = services_of descs }
 
--- The body is just an entry of the network and a loop of entries of these streams.
-pub record IsNit (body : List ℕ) (nit : Nit) : Type 0 where
-  pub network : TableEntry
-  pub behind : List ℕ
-  pub whole : body ≡ entry_bytes network ++ behind
-  pub fits : FitsEntry 0 network
-  pub descs : List RawDesc
-  pub network_descriptors : AreDescriptors network.descriptors descs
-  pub name : nit.name ≡ name_of descs
-  pub loop : List ℕ
-  pub stream_loop : IsLoop behind loop
-  pub streams : AreEntries 4 stream_of loop nit.streams
+abbrev pub stream_in : Reads NitStream
+stream_in fields descs = Some (stream_of fields descs)
+
+-- the bytes after their length of 12 bits, whatever the four bits before it; none where they are not as many
+abbrev pub is_loop : List ℕ → Bool
+is_loop bytes = nat_le 2 (length bytes) && length (drop 2 bytes) == two_at 0 bytes % 4096
+
+abbrev pub loop_in : List ℕ → Option (List ℕ)
+loop_in bytes = if is_loop bytes then Some (drop 2 bytes) else None
+
+abbrev pub nit_with : Shown → List NitStream → Nit
+nit_with name streams = record { name = name; streams = streams }
+
+-- An entry of the network, and a loop of entries of streams, whatever their reserved bits; none where the body is no such entries.
+abbrev pub nit_in : List ℕ → Option Nit
+nit_in body =
+    option_and_then (λ parts. made nit_with (value_in name_in parts.0) (option_and_then (entries_in 4 stream_in) (loop_in parts.1)))
+    (split_in 0 body)
+
+-- whether bytes are such a body
+abbrev pub is_nit_body : List ℕ → Bool
+is_nit_body body = is_some (nit_in body)
 
 -- ---- laws
-
--- A body is of one value at most.
-abbrev pub NitIsUnique : Type 0
-NitIsUnique = (body : List ℕ) (a b : Nit) → IsNit body a → IsNit body b → a ≡ b
 
 -- each field has its width
 pub record HasStreamWidths (s : NitStream) : Type 0 where
@@ -113,7 +116,17 @@ pub record FitsNit (n : Nit) : Type 0 where
 
 -- Reading a written body gives its value back.
 abbrev pub NitReadsBack : Type 0
-NitReadsBack = (n : Nit) → FitsNit n → IsNit (nit_body n) n
+NitReadsBack = (n : Nit) → FitsNit n → nit_in (nit_body n) ≡ Some n
+
+-- what is asked before a body is written
+pub record CanBeWritten (nit : Nit) : Type 0 where
+  pub name : length (shown_bytes nit.name) ≤ 255
+  pub streams : All FitsStream nit.streams
+  pub within : sum_by stream_size nit.streams < 4096
+
+-- Each body that can be written is read.
+abbrev pub WrittenNitsAreRead : Type 0
+WrittenNitsAreRead = (nit : Nit) → CanBeWritten nit → is_nit_body (nit_body nit) ≡ true
 
 -- A body has the bytes of its name, of its streams, and 6 more.
 abbrev pub NitHasItsSize : Type 0

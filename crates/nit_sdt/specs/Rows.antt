@@ -6,9 +6,8 @@ use Rattle.guide_model.specs.declared.stream.Cable.{Cable}
 use Rattle.desc_parts.specs.declared.descriptors.RawDesc.{RawDesc}
 use Rattle.nit_sdt.specs.declared.nit.NitStream.{NitStream}
 use Rattle.nit_sdt.specs.declared.sdt.SdtService.{SdtService}
-use Rattle.nit_sdt.specs.Nit.{nit_body, name_of, stream_of}
-use Rattle.nit_sdt.specs.Sdt.{sdt_body, service_of}
-use Rattle.nit_sdt.specs.Bodies.{is_nit_body, is_sdt_body}
+use Rattle.nit_sdt.specs.Nit.{nit_body, name_of, stream_of, is_nit_body}
+use Rattle.nit_sdt.specs.Sdt.{sdt_body, service_of, is_sdt_body}
 
 -- ---- the network Demo, with stream 1 of network 1, which has service 101 of type 1
 
@@ -37,10 +36,10 @@ list = record { tag = 0x41; body = 0x00 ∷ 0x65 ∷ 0x01 ∷ [] }
 abbrev empty_list : RawDesc
 empty_list = record { tag = 0x41; body = [] }
 
-stream_read : stream_of (0x00 ∷ 0x01 ∷ 0x00 ∷ 0x01 ∷ []) 0 (cut_list ∷ list ∷ empty_list ∷ []) ≡ stream
+stream_read : stream_of (0x00 ∷ 0x01 ∷ 0x00 ∷ 0x01 ∷ []) (cut_list ∷ list ∷ empty_list ∷ []) ≡ stream
 stream_read = refl
 
-list_hidden : stream_of (0x00 ∷ 0x01 ∷ 0x00 ∷ 0x02 ∷ []) 15 (empty_list ∷ list ∷ []) ≡ record { stream = 1; original = 2; cable = None; services = [] }
+list_hidden : stream_of (0x00 ∷ 0x01 ∷ 0x00 ∷ 0x02 ∷ []) (empty_list ∷ list ∷ []) ≡ record { stream = 1; original = 2; cable = None; services = [] }
 list_hidden = refl
 
 -- without a network_name the name is empty
@@ -71,14 +70,14 @@ cut_text = record { tag = 0x48; body = 0x01 ∷ 0x00 ∷ [] }
 abbrev text : RawDesc
 text = record { tag = 0x48; body = 0x01 ∷ 0x04 ∷ 0x41 ∷ 0x63 ∷ 0x6D ∷ 0x65 ∷ 0x04 ∷ 0x4E ∷ 0x65 ∷ 0x77 ∷ 0x73 ∷ [] }
 
-service_read : service_of (0x00 ∷ 0x65 ∷ 0x03 ∷ []) 5 (cut_text ∷ text ∷ []) ≡ news
+service_read : service_of (0x00 ∷ 0x65 ∷ 0x03 ∷ []) (cut_text ∷ text ∷ []) ≡ news
 unfolding chars
 service_read = refl
 
-service_bare : service_of (0x00 ∷ 0x65 ∷ 0xFD ∷ []) 8 (cut_text ∷ []) ≡ record { service = 101; schedule = false; present = true; kind = 0; provider = Text []; name = Text [] }
+service_bare : service_of (0x00 ∷ 0x65 ∷ 0xFD ∷ []) (cut_text ∷ []) ≡ record { service = 101; schedule = false; present = true; kind = 0; provider = Text []; name = Text [] }
 service_bare = refl
 
--- ---- bodies that are looked at
+-- ---- bytes that are a body, or none
 
 looked_nit : is_nit_body (0xF0 ∷ 0x02 ∷ 0x40 ∷ 0x00 ∷ 0xF0 ∷ 0x08 ∷ 0x00 ∷ 0x01 ∷ 0x00 ∷ 0x01 ∷ 0xF0 ∷ 0x02 ∷ 0x41 ∷ 0x00 ∷ []) ≡ true
 looked_nit = refl

@@ -1,14 +1,15 @@
 -- The body of a section of the service description table, both ways (EN 300 468, 5.2.3).
-use Rattle.std.specs.Prelude.{◌≡◌, ℕ, ◌+◌, ◌*◌, ◌/◌, ◌%◌, ◌<◌, ◌≤◌, Bool, ◌==◌, if◌then◌else◌, List, [], ◌∷◌, ◌++◌, length, drop, sum_by, slice_index}
+use Rattle.std.specs.Prelude.{◌≡◌, ℕ, ◌+◌, ◌*◌, ◌/◌, ◌%◌, ◌<◌, ◌≤◌, Bool, true, ◌==◌, nat_le, if◌then◌else◌, List, [], ◌∷◌, ◌++◌, length, drop, sum_by, slice_index}
+use Rattle.std.specs.Prelude.{Option, Some, None, is_some, option_map}
 use Rattle.std.specs.Option.{unwrap_or}
-use Rattle.std.specs.List.{flat_map, AllByRecursion}
+use Rattle.std.specs.List.{flat_map, All, AllByRecursion}
 use Rattle.si_base.specs.Fields.{two, two_at}
 use Rattle.si_text.specs.Decoding.{shown_bytes}
 use Rattle.si_text.specs.declared.shown.Shown.TheVariants.{Text}
 use Rattle.desc_parts.specs.declared.descriptors.RawDesc.{RawDesc}
 use Rattle.desc_service.specs.declared.service.ServiceText.{ServiceText}
 use Rattle.desc_service.specs.Service.{service_descriptor, service_in, HasShownNames}
-use Rattle.table_entries.specs.Entries.{TableEntry, entry_bytes, AreEntries}
+use Rattle.table_entries.specs.Entries.{TableEntry, entry_bytes, Reads, entries_in}
 use Rattle.table_entries.specs.First.{first_in}
 use Rattle.nit_sdt.specs.declared.sdt.SdtService.{SdtService}
 use Rattle.nit_sdt.specs.declared.sdt.Sdt.{Sdt}
@@ -59,21 +60,26 @@ service_with fields text = record {
   name = text.name;
 }
 
--- what an entry says of a service, whatever its reserved bits, running_status and free_CA_mode
-abbrev pub service_of : List ℕ → ℕ → List RawDesc → SdtService
-service_of fields bits descs = service_with fields (text_in descs)
+-- what an entry says of a service
+abbrev pub service_of : List ℕ → List RawDesc → SdtService
+service_of fields descs = service_with fields (text_in descs)
 
--- The body is just original_network_id, a reserved byte, and entries of these services.
-pub record IsSdt (body : List ℕ) (sdt : Sdt) : Type 0 where
-  pub head : 3 ≤ length body
-  pub original : sdt.original ≡ two_at 0 body
-  pub services : AreEntries 3 service_of (drop 3 body) sdt.services
+abbrev pub sdt_service_in : Reads SdtService
+sdt_service_in fields descs = Some (service_of fields descs)
+
+abbrev pub sdt_with : ℕ → List SdtService → Sdt
+sdt_with original services = record { original = original; services = services }
+
+-- original_network_id, a reserved byte, and entries of services, whatever their reserved bits, running_status and free_CA_mode; none
+-- where the body is no such entries
+abbrev pub sdt_in : List ℕ → Option Sdt
+sdt_in body = if nat_le 3 (length body) then option_map (sdt_with (two_at 0 body)) (entries_in 3 sdt_service_in (drop 3 body)) else None
+
+-- whether bytes are such a body
+abbrev pub is_sdt_body : List ℕ → Bool
+is_sdt_body body = is_some (sdt_in body)
 
 -- ---- laws
-
--- A body is of one value at most.
-abbrev pub SdtIsUnique : Type 0
-SdtIsUnique = (body : List ℕ) (a b : Sdt) → IsSdt body a → IsSdt body b → a ≡ b
 
 -- fields that fit, and texts that are shown as their bytes are
 pub record HasServiceWidths (s : SdtService) : Type 0 where
@@ -87,7 +93,11 @@ pub record FitsSdt (sdt : Sdt) : Type 0 where
 
 -- Reading a written body gives its value back.
 abbrev pub SdtReadsBack : Type 0
-SdtReadsBack = (sdt : Sdt) → FitsSdt sdt → IsSdt (sdt_body sdt) sdt
+SdtReadsBack = (sdt : Sdt) → FitsSdt sdt → sdt_in (sdt_body sdt) ≡ Some sdt
+
+-- Each body that can be written is read.
+abbrev pub WrittenSdtsAreRead : Type 0
+WrittenSdtsAreRead = (sdt : Sdt) → All FitsService sdt.services → is_sdt_body (sdt_body sdt) ≡ true
 
 -- An entry has the bytes of its texts, and 10 more; a body has its entries, and 3 more.
 abbrev pub ServiceHasItsSize : Type 0

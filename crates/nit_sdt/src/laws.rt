@@ -1,16 +1,15 @@
 // Laws of the written and the read forms.
-ghost use Rattle.nit_sdt.specs.Nit.{NitHasItsSize, NitIsUnique, NitReadsBack};
-ghost use Rattle.nit_sdt.specs.Sdt.{SdtHasItsSize, SdtIsUnique, SdtReadsBack, ServiceHasItsSize};
-ghost use Rattle.nit_sdt.specs.Bodies.{NitBodiesCanBeRead, ReadNitsAreBodies, ReadSdtsAreBodies, SdtBodiesCanBeRead, WrittenNitsAreBodies, WrittenSdtsAreBodies};
+ghost use Rattle.nit_sdt.specs.Nit.{NitHasItsSize, NitReadsBack, WrittenNitsAreRead};
+ghost use Rattle.nit_sdt.specs.Sdt.{SdtHasItsSize, SdtReadsBack, ServiceHasItsSize, WrittenSdtsAreRead};
 
 use desc_service::written_descriptors_read_back;
 
-/// A body is of one value at most, and reading a written body gives its value back.
+/// Reading a written body gives its value back. Each body that can be written is read.
 pub fn written_networks_read_back()
-    ensures nit_unique { NitIsUnique }
     ensures nit { NitReadsBack }
-    ensures sdt_unique { SdtIsUnique }
+    ensures nits { WrittenNitsAreRead }
     ensures sdt { SdtReadsBack }
+    ensures sdts { WrittenSdtsAreRead }
 {
     written_descriptors_read_back();
 }
@@ -20,18 +19,4 @@ pub fn bodies_have_their_sizes()
     ensures nit { NitHasItsSize }
     ensures service { ServiceHasItsSize }
     ensures sdt { SdtHasItsSize }
-{}
-
-/// Bodies that `read_nit` and `read_sdt` read are just those of which `is_nit_body` and `is_sdt_body` are true.
-pub fn read_networks_are_bodies()
-    ensures nit { ReadNitsAreBodies }
-    ensures nit_read { NitBodiesCanBeRead }
-    ensures sdt { ReadSdtsAreBodies }
-    ensures sdt_read { SdtBodiesCanBeRead }
-{}
-
-/// `is_nit_body` and `is_sdt_body` are true of what `write_nit` and `write_sdt` write.
-pub fn written_networks_are_bodies()
-    ensures nit { WrittenNitsAreBodies }
-    ensures sdt { WrittenSdtsAreBodies }
 {}

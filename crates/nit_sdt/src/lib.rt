@@ -4,18 +4,13 @@
 //! value of a body, or `None` exactly where it has none. Written bodies read back
 //! (`written_networks_read_back`). `service_len` gives the size of a service's entry, for whoever
 //! splits services into sections. `bodies_have_their_sizes` says how long bodies are. `is_nit_body`
-//! and `is_sdt_body` say whether bytes are such a body, without taking memory. They accept exactly
-//! the bodies that are read, and so each written one (`read_networks_are_bodies`,
-//! `written_networks_are_bodies`).
+//! and `is_sdt_body` say whether a body is read, without taking memory.
 #![tactic(auto)]
 
 mod laws;
 mod nit;
 mod sdt;
 
-pub use laws::{
-    bodies_have_their_sizes, read_networks_are_bodies, written_networks_are_bodies,
-    written_networks_read_back,
-};
+pub use laws::{bodies_have_their_sizes, written_networks_read_back};
 pub use nit::{Nit, NitStream, NitStreams, is_nit_body, read_nit, write_nit};
 pub use sdt::{Sdt, SdtService, SdtServices, is_sdt_body, read_sdt, service_len, write_sdt};

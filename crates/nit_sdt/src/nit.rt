@@ -1,15 +1,12 @@
 // The network information table.
-ghost use Rattle.std.specs.Prelude.{◌≡◌, ◌<◌, ◌≤◌, ◌++◌, true, false, List, ℕ, drop, length, sum_by, IfOk, IfSome, IfNone, OnOk};
+ghost use Rattle.std.specs.Prelude.{◌≡◌, ◌<◌, ◌≤◌, ◌++◌, length, sum_by, is_some, option_map, IfOk, IfSome, OnOk};
 ghost use Rattle.std.specs.List.{All, flat_map};
 ghost use Rattle.std.proofs.Common.{lit<};
 ghost use Rattle.si_text.specs.Decoding.{shown_bytes};
 ghost use Rattle.desc_service.specs.CableDelivery.{FitsCable};
 ghost use Rattle.desc_service.specs.NetworkName.{network_name};
-ghost use Rattle.table_entries.specs.Entries.{AreEntries, entry_bytes};
-ghost use Rattle.nit_sdt.specs.declared.nit.NitStream.{NitStream};
-ghost use Rattle.nit_sdt.specs.declared.nit.Nit.{Nit};
-ghost use Rattle.nit_sdt.specs.Nit.{FitsStream, IsLoop, IsNit, bare_entry, cable_descriptors, cable_of, cable_size, name_of, nit_body, services_of, stream_bytes, stream_of, stream_size};
-ghost use Rattle.nit_sdt.specs.Bodies.{is_loop, is_nit_body};
+ghost use Rattle.table_entries.specs.Entries.{entry_bytes};
+ghost use Rattle.nit_sdt.specs.Nit.{FitsStream, bare_entry, cable_descriptors, cable_of, cable_size, loop_in, name_of, nit_body, nit_in, services_of, stream_bytes, stream_in, stream_size};
 
 use desc_parts::no_text;
 use desc_service::{
@@ -20,7 +17,7 @@ use guide_model::Cable;
 use si_base::{Bytes, Items};
 use si_text::Shown;
 use std::alloc::{AllocError, Global};
-use table_entries::{EntryKind, RawEntry, are_entries, behind_entry, read_entries, split_entry};
+use table_entries::{EntryKind, RawEntry, are_entries, read_entries, split_entry};
 
 /// A transport stream of a network: transport_stream_id and original_network_id, how it is sent by cable where that is told, and its
 /// services.
@@ -124,8 +121,7 @@ fn put_cable(cable: &Option<Cable>, out: &mut Vec<u8>) -> Result<(), AllocError>
 /// The name is that of the first network_name_descriptor; without one it is empty. A stream has the cable of its first
 /// cable_delivery_system_descriptor and the services of its first service_list_descriptor whose body fits; without a list it has none.
 pub fn read_nit(alloc: Global, body: &[u8]) -> Result<Option<Nit>, AllocError>
-    ensures some { IfOk result (λ read. IfSome read (λ nit. IsNit body.now nit)) }
-    ensures none { IfOk result (λ read. IfNone read ((nit : Nit) → ¬ IsNit body.now nit)) }
+    ensures { IfOk result (λ read. read ≡ nit_in body.now) }
 {
     let Some((network, behind)) = split_entry(0, body) else {
         return Ok(None);
@@ -146,24 +142,20 @@ pub fn read_nit(alloc: Global, body: &[u8]) -> Result<Option<Nit>, AllocError>
 /// Whether these bytes are the body of a section of the network information table, as `read_nit` reads it (EN 300 468, 5.2.1). It takes
 /// no memory.
 pub fn is_nit_body(body: &[u8]) -> bool
-    ensures { result ≡ is_nit_body body.now }
+    ensures { result ≡ is_some (nit_in body.now) }
 {
-    let Some(behind) = behind_entry(0, body) else {
+    let Some((network, behind)) = split_entry(0, body) else {
         return false;
     };
     match split_loop(behind) {
-        Some(streams) => are_entries(4, streams),
+        Some(streams) => network.has_descriptors() && are_entries::<StreamEntries>(streams),
         None => false,
     }
 }
 
-// The bytes that these are behind a length of 12 bits; none where they are not just as many as it tells.
+// The bytes after a length of 12 bits; none where they are not as many as it says.
 fn split_loop(bytes: &[u8]) -> Option<&[u8]>
-    ensures some { IfSome result (λ entries. IsLoop bytes.now entries.now) }
-    ensures none { IfNone result ((entries : List ℕ) → ¬ IsLoop bytes.now entries) }
-    ensures behind { IfSome result (λ entries. entries.now ≡ drop 2 bytes.now) }
-    ensures is_loop { IfSome result (λ entries. is_loop bytes.now ≡ true) }
-    ensures is_none { IfNone result (is_loop bytes.now ≡ false) }
+    ensures { option_map (λ entries. entries.now) result ≡ loop_in bytes.now }
 {
     let [high, low, entries @ ..] = bytes else {
         return None;
@@ -185,16 +177,24 @@ impl EntryKind for StreamEntries {
 
     ghost SIZE = { 4 };
 
-    ghost value_of = { stream_of };
+    ghost value_of = { stream_in };
 
-    fn read(alloc: Global, entry: &RawEntry, descs: &[RawDesc]) -> Result<NitStream, AllocError> {
+    fn read(
+        alloc: Global,
+        entry: &RawEntry,
+        descs: &[RawDesc],
+    ) -> Result<Option<NitStream>, AllocError> {
         let services = services_of(alloc, descs)?;
-        Ok(NitStream {
+        Ok(Some(NitStream {
             stream: entry.two(0),
             original: entry.two(2),
             cable: cable_of(descs)?,
             services,
-        })
+        }))
+    }
+
+    fn is_read(_entry: &RawEntry) -> bool {
+        true
     }
 
     ghost is_narrow = { lit< tt };

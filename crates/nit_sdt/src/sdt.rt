@@ -1,12 +1,8 @@
 // The service description table.
-ghost use Rattle.std.specs.Prelude.{◌≡◌, ◌++◌, List, length, IfOk, IfSome, IfNone, OnOk};
+ghost use Rattle.std.specs.Prelude.{◌≡◌, ◌++◌, length, is_some, IfOk, OnOk};
 ghost use Rattle.std.specs.List.{All, flat_map};
 ghost use Rattle.std.proofs.Common.{lit<};
-ghost use Rattle.table_entries.specs.Entries.{AreEntries};
-ghost use Rattle.nit_sdt.specs.declared.sdt.SdtService.{SdtService};
-ghost use Rattle.nit_sdt.specs.declared.sdt.Sdt.{Sdt};
-ghost use Rattle.nit_sdt.specs.Sdt.{FitsService, IsSdt, flag_bit, sdt_body, service_bytes, service_of, text_in};
-ghost use Rattle.nit_sdt.specs.Bodies.{is_sdt_body};
+ghost use Rattle.nit_sdt.specs.Sdt.{FitsService, flag_bit, sdt_body, sdt_in, service_bytes, sdt_service_in, text_in};
 
 use desc_parts::no_text;
 use desc_service::{RawDesc, ServiceText, read_service, write_service_fields};
@@ -97,8 +93,7 @@ fn flag_bit(flag: bool) -> u8
 ///
 /// Type, provider and name of a service are those of its first service_descriptor whose body fits; without one they are 0 and empty.
 pub fn read_sdt(alloc: Global, body: &[u8]) -> Result<Option<Sdt>, AllocError>
-    ensures some { IfOk result (λ read. IfSome read (λ sdt. IsSdt body.now sdt)) }
-    ensures none { IfOk result (λ read. IfNone read ((sdt : Sdt) → ¬ IsSdt body.now sdt)) }
+    ensures { IfOk result (λ read. read ≡ sdt_in body.now) }
 {
     let [high, low, _reserved, entries @ ..] = body else {
         return Ok(None);
@@ -115,9 +110,9 @@ pub fn read_sdt(alloc: Global, body: &[u8]) -> Result<Option<Sdt>, AllocError>
 /// Whether these bytes are the body of a section of the service description table, as `read_sdt` reads it (EN 300 468, 5.2.3). It takes
 /// no memory.
 pub fn is_sdt_body(body: &[u8]) -> bool
-    ensures { result ≡ is_sdt_body body.now }
+    ensures { result ≡ is_some (sdt_in body.now) }
 {
-    3 <= body.len() && are_entries(3, &body[3..])
+    3 <= body.len() && are_entries::<ServiceEntries>(&body[3..])
 }
 
 // The entries of services.
@@ -130,19 +125,27 @@ impl EntryKind for ServiceEntries {
 
     ghost SIZE = { 3 };
 
-    ghost value_of = { service_of };
+    ghost value_of = { sdt_service_in };
 
-    fn read(alloc: Global, entry: &RawEntry, descs: &[RawDesc]) -> Result<SdtService, AllocError> {
+    fn read(
+        alloc: Global,
+        entry: &RawEntry,
+        descs: &[RawDesc],
+    ) -> Result<Option<SdtService>, AllocError> {
         let flags = entry.byte(2);
         let text = text_in(alloc, descs)?;
-        Ok(SdtService {
+        Ok(Some(SdtService {
             service: entry.two(0),
             schedule: flags / 2 % 2 == 1,
             present: flags % 2 == 1,
             kind: text.kind,
             provider: text.provider,
             name: text.name,
-        })
+        }))
+    }
+
+    fn is_read(_entry: &RawEntry) -> bool {
+        true
     }
 
     ghost is_narrow = { lit< tt };

@@ -1,4 +1,3 @@
 pub mod Pat
 pub mod Pmt
-pub mod Bodies
 pub mod Rows

@@ -1,5 +1,5 @@
 -- The body of a section of the program association table, both ways (ISO/IEC 13818-1, 2.4.4.3).
-use Rattle.std.specs.Prelude.{◌≡◌, ℕ, ◌+◌, ◌*◌, ◌%◌, ◌<◌, List, [], ◌∷◌, ◌++◌, Option, Some, None}
+use Rattle.std.specs.Prelude.{◌≡◌, ℕ, ◌+◌, ◌*◌, ◌%◌, ◌<◌, List, [], ◌∷◌, ◌++◌, Option, Some, None, Bool, true, is_some}
 use Rattle.std.specs.Option.{option_map}
 use Rattle.std.specs.List.{flat_map, AllByRecursion}
 use Rattle.si_base.specs.Fields.{two}
@@ -31,6 +31,10 @@ pat_in (a ∷ b ∷ []) = None
 pat_in (a ∷ b ∷ c ∷ []) = None
 pat_in (a ∷ b ∷ c ∷ d ∷ rest) = option_map (λ entries. program_of a b c d ∷ entries) (pat_in rest)
 
+-- whether bytes are such a body
+abbrev pub is_pat_body : List ℕ → Bool
+is_pat_body body = is_some (pat_in body)
+
 -- ---- laws
 
 -- each field has its width
@@ -41,3 +45,7 @@ pub record FitsProgram (e : PatEntry) : Type 0 where
 -- Reading written entries gives them back.
 abbrev pub PatReadsBack : Type 0
 PatReadsBack = (entries : List PatEntry) → AllByRecursion FitsProgram entries → pat_in (pat_body entries) ≡ Some entries
+
+-- And each written body is read, whatever its fields.
+abbrev pub WrittenPatsAreRead : Type 0
+WrittenPatsAreRead = (entries : List PatEntry) → is_pat_body (pat_body entries) ≡ true

@@ -1,12 +1,12 @@
 -- The body of a section of a program map table, both ways (ISO/IEC 13818-1, 2.4.4.8).
-use Rattle.std.specs.Prelude.{◌≡◌, ℕ, ◌+◌, ◌%◌, ◌<◌, List, [], ◌∷◌, ◌++◌, length, slice_index, Option, Some, None, IfSome}
+use Rattle.std.specs.Prelude.{◌≡◌, ℕ, ◌+◌, ◌%◌, ◌<◌, List, [], ◌∷◌, ◌++◌, length, slice_index, Bool}
+use Rattle.std.specs.Prelude.{Option, Some, None, IfSome, is_some, option_and_then}
 use Rattle.std.specs.List.{flat_map, AllByRecursion}
 use Rattle.si_base.specs.Fields.{two, two_at}
 use Rattle.guide_model.specs.declared.stream.Component.{Component}
 use Rattle.desc_parts.specs.declared.descriptors.RawDesc.{RawDesc}
-use Rattle.desc_parts.specs.Descriptors.{AreDescriptors}
 use Rattle.desc_service.specs.Languages.{iso_639_language, languages_in}
-use Rattle.table_entries.specs.Entries.{TableEntry, entry_bytes, FitsEntry, AreEntries}
+use Rattle.table_entries.specs.Entries.{TableEntry, entry_bytes, Reads, made, split_in, value_in, entries_in}
 use Rattle.table_entries.specs.First.{first_in}
 use Rattle.pat_pmt.specs.declared.pmt.Pmt.{Pmt}
 
@@ -46,26 +46,29 @@ first_language None = None
 abbrev pub language_of : List RawDesc → Option (List ℕ)
 language_of descs = first_language (first_in 0x0A languages_in descs)
 
--- what an entry says of a component, whatever its reserved bits
-abbrev pub component_of : List ℕ → ℕ → List RawDesc → Component
-component_of fields bits descs = record { stream_type = slice_index fields 0; pid = two_at 1 fields % 8192; language = language_of descs }
+-- what an entry says of a component
+abbrev pub component_of : List ℕ → List RawDesc → Component
+component_of fields descs = record { stream_type = slice_index fields 0; pid = two_at 1 fields % 8192; language = language_of descs }
 
--- The body is just an entry of the program, with descriptors that are passed over, and entries of these components.
-pub record IsPmt (body : List ℕ) (pmt : Pmt) : Type 0 where
-  pub program : TableEntry
-  pub loop : List ℕ
-  pub whole : body ≡ entry_bytes program ++ loop
-  pub fits : FitsEntry 2 program
-  pub descs : List RawDesc
-  pub program_info : AreDescriptors program.descriptors descs
-  pub pcr_pid : pmt.pcr_pid ≡ two_at 0 program.fields % 8192
-  pub components : AreEntries 3 component_of loop pmt.components
+abbrev pub component_in : Reads Component
+component_in fields descs = Some (component_of fields descs)
+
+-- PCR_PID of the entry of the program, whose descriptors are passed over
+abbrev pub pcr_pid_in : Reads ℕ
+pcr_pid_in fields descs = Some (two_at 0 fields % 8192)
+
+abbrev pub pmt_with : ℕ → List Component → Pmt
+pmt_with pcr_pid components = record { pcr_pid = pcr_pid; components = components }
+
+-- An entry of the program and entries of components, whatever their reserved bits; none where the body is no such entries.
+abbrev pub pmt_in : List ℕ → Option Pmt
+pmt_in body = option_and_then (λ parts. made pmt_with (value_in pcr_pid_in parts.0) (entries_in 3 component_in parts.1)) (split_in 2 body)
+
+-- whether bytes are such a body
+abbrev pub is_pmt_body : List ℕ → Bool
+is_pmt_body body = is_some (pmt_in body)
 
 -- ---- laws
-
--- A body is of one value at most.
-abbrev pub PmtIsUnique : Type 0
-PmtIsUnique = (body : List ℕ) (a b : Pmt) → IsPmt body a → IsPmt body b → a ≡ b
 
 -- each field has its width, and a language three letters
 pub record FitsComponent (c : Component) : Type 0 where
@@ -78,4 +81,4 @@ pub record FitsPmt (p : Pmt) : Type 0 where
 
 -- Reading a written body gives its value back.
 abbrev pub PmtReadsBack : Type 0
-PmtReadsBack = (p : Pmt) → FitsPmt p → IsPmt (pmt_body p) p
+PmtReadsBack = (p : Pmt) → FitsPmt p → pmt_in (pmt_body p) ≡ Some p

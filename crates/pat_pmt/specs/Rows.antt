@@ -2,9 +2,8 @@
 use Rattle.std.specs.Prelude.{◌≡◌, [], ◌∷◌, Some, None, true, false, refl, codes}
 use Rattle.std.specs.Str.{chars}
 use Rattle.desc_parts.specs.declared.descriptors.RawDesc.{RawDesc}
-use Rattle.pat_pmt.specs.Pat.{pat_body, pat_in}
-use Rattle.pat_pmt.specs.Pmt.{pmt_body, component_of}
-use Rattle.pat_pmt.specs.Bodies.{is_pat_body, is_pmt_body}
+use Rattle.pat_pmt.specs.Pat.{pat_body, pat_in, is_pat_body}
+use Rattle.pat_pmt.specs.Pmt.{pmt_body, component_of, pmt_in, is_pmt_body}
 
 -- ---- the network's program 0 on PID 0x0010, and program 101 on PID 256
 
@@ -40,14 +39,14 @@ no_language = record { tag = 0x0A; body = [] }
 abbrev english : RawDesc
 english = record { tag = 0x0A; body = 0x65 ∷ 0x6E ∷ 0x67 ∷ 0x00 ∷ [] }
 
-component_read : component_of (0x03 ∷ 0x02 ∷ 0x02 ∷ []) 0 (cut_language ∷ english ∷ no_language ∷ []) ≡ record { stream_type = 3; pid = 514; language = Some (codes "eng") }
+component_read : component_of (0x03 ∷ 0x02 ∷ 0x02 ∷ []) (cut_language ∷ english ∷ no_language ∷ []) ≡ record { stream_type = 3; pid = 514; language = Some (codes "eng") }
 unfolding chars
 component_read = refl
 
-component_hidden : component_of (0x03 ∷ 0xE2 ∷ 0x02 ∷ []) 15 (no_language ∷ english ∷ []) ≡ record { stream_type = 3; pid = 514; language = None }
+component_hidden : component_of (0x03 ∷ 0xE2 ∷ 0x02 ∷ []) (no_language ∷ english ∷ []) ≡ record { stream_type = 3; pid = 514; language = None }
 component_hidden = refl
 
--- ---- bodies that are looked at
+-- ---- bytes that are a body, or none
 
 looked_pat : is_pat_body (0x00 ∷ 0x65 ∷ 0x01 ∷ 0x00 ∷ []) ≡ true
 looked_pat = refl
@@ -55,7 +54,8 @@ looked_pat = refl
 looked_cut_pat : is_pat_body (0x00 ∷ 0x65 ∷ 0xE1 ∷ []) ≡ false
 looked_cut_pat = refl
 
-looked_pmt : is_pmt_body (0xE1 ∷ 0x01 ∷ 0xF0 ∷ 0x00 ∷ 0x02 ∷ 0xE2 ∷ 0x01 ∷ 0xF0 ∷ 0x00 ∷ []) ≡ true
+looked_pmt : pmt_in (0xE1 ∷ 0x01 ∷ 0xF0 ∷ 0x00 ∷ 0x02 ∷ 0xE2 ∷ 0x01 ∷ 0xF0 ∷ 0x00 ∷ [])
+    ≡ Some (record { pcr_pid = 257; components = record { stream_type = 2; pid = 513; language = None } ∷ [] })
 looked_pmt = refl
 
 -- program_info_length runs past the end, and the last entry is cut

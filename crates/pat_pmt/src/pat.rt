@@ -1,8 +1,7 @@
 // The program association table.
-ghost use Rattle.std.specs.Prelude.{◌≡◌, ◌++◌, IfOk, OnOk};
+ghost use Rattle.std.specs.Prelude.{◌≡◌, ◌++◌, is_some, IfOk, OnOk};
 ghost use Rattle.std.specs.List.{All};
 ghost use Rattle.pat_pmt.specs.Pat.{HasPid, pat_body, pat_in, program_bytes};
-ghost use Rattle.pat_pmt.specs.Bodies.{is_pat_body};
 
 use si_base::{Bytes, Copies, Items};
 use std::alloc::{AllocError, Global};
@@ -67,7 +66,7 @@ pub fn read_pat(alloc: Global, body: &[u8]) -> Result<Option<PatEntries>, AllocE
 /// Whether these bytes are the body of a section of the program association table, as `read_pat` reads it (ISO/IEC 13818-1, 2.4.4.3).
 /// It takes no memory.
 pub fn is_pat_body(body: &[u8]) -> bool
-    ensures { result ≡ is_pat_body body.now }
+    ensures { result ≡ is_some (pat_in body.now) }
 {
     body.len() % 4 == 0
 }

@@ -1,18 +1,15 @@
 // The program map table.
-ghost use Rattle.std.specs.Prelude.{◌≡◌, ◌<◌, ◌++◌, List, ℕ, Option, length, IfOk, IfSome, IfNone, OnOk};
+ghost use Rattle.std.specs.Prelude.{◌≡◌, ◌<◌, ◌++◌, List, ℕ, Option, length, is_some, IfOk, OnOk};
 ghost use Rattle.std.specs.List.{All, flat_map};
 ghost use Rattle.std.proofs.Common.{lit<};
 ghost use Rattle.guide_model.specs.declared.stream.Component.{Component};
-ghost use Rattle.table_entries.specs.Entries.{AreEntries};
-ghost use Rattle.pat_pmt.specs.declared.pmt.Pmt.{Pmt};
-ghost use Rattle.pat_pmt.specs.Pmt.{HasPid, IsPmt, component_bytes, component_of, language_descriptors, language_of, pmt_body};
-ghost use Rattle.pat_pmt.specs.Bodies.{is_pmt_body};
+ghost use Rattle.pat_pmt.specs.Pmt.{HasPid, component_bytes, component_in, language_descriptors, language_of, pmt_body, pmt_in};
 
 use desc_service::{RawDesc, read_iso_639_language, write_iso_639_language};
 use guide_model::{Component, Components};
 use si_base::{Bytes, Items};
 use std::alloc::{AllocError, Global};
-use table_entries::{EntryKind, RawEntry, are_entries, behind_entry, read_entries, split_entry};
+use table_entries::{EntryKind, RawEntry, are_entries, read_entries, split_entry};
 
 /// What a program map table holds: the PID of the program's clock reference (13 bits) and its components.
 #[derive(Drop)]
@@ -68,15 +65,14 @@ fn put_component(component: &Component, out: &mut Vec<u8>) -> Result<(), AllocEr
 ///
 /// The language of a component is the first of its first ISO_639_language_descriptor whose body fits.
 pub fn read_pmt(alloc: Global, body: &[u8]) -> Result<Option<Pmt>, AllocError>
-    ensures some { IfOk result (λ read. IfSome read (λ pmt. IsPmt body.now pmt)) }
-    ensures none { IfOk result (λ read. IfNone read ((pmt : Pmt) → ¬ IsPmt body.now pmt)) }
+    ensures { IfOk result (λ read. read ≡ pmt_in body.now) }
 {
     let Some((program, behind)) = split_entry(2, body) else {
         return Ok(None);
     };
-    let Some(_descs) = program.descriptors(alloc)? else {
+    if !program.has_descriptors() {
         return Ok(None);
-    };
+    }
     let Some(components) = read_entries::<ComponentEntries>(alloc, behind)? else {
         return Ok(None);
     };
@@ -96,14 +92,22 @@ impl EntryKind for ComponentEntries {
 
     ghost SIZE = { 3 };
 
-    ghost value_of = { component_of };
+    ghost value_of = { component_in };
 
-    fn read(alloc: Global, entry: &RawEntry, descs: &[RawDesc]) -> Result<Component, AllocError> {
-        Ok(Component {
+    fn read(
+        alloc: Global,
+        entry: &RawEntry,
+        descs: &[RawDesc],
+    ) -> Result<Option<Component>, AllocError> {
+        Ok(Some(Component {
             stream_type: entry.byte(0),
             pid: entry.two(1) % 8192,
             language: language_of(alloc, descs)?,
-        })
+        }))
+    }
+
+    fn is_read(_entry: &RawEntry) -> bool {
+        true
     }
 
     ghost is_narrow = { lit< tt };
@@ -126,10 +130,12 @@ fn language_of(alloc: Global, descs: &[RawDesc]) -> Result<Option<[u8; 3]>, Allo
 /// Whether these bytes are the body of a section of the program map table, as `read_pmt` reads it (ISO/IEC 13818-1, 2.4.4.8). It takes
 /// no memory.
 pub fn is_pmt_body(body: &[u8]) -> bool
-    ensures { result ≡ is_pmt_body body.now }
+    ensures { result ≡ is_some (pmt_in body.now) }
 {
-    match behind_entry(2, body) {
-        Some(components) => are_entries(3, components),
+    match split_entry(2, body) {
+        Some((program, components)) => {
+            program.has_descriptors() && are_entries::<ComponentEntries>(components)
+        }
         None => false,
     }
 }

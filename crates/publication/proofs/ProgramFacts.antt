@@ -19,8 +19,7 @@ use Rattle.pat_pmt.specs.declared.pat.PatEntry.{PatEntry}
 use Rattle.pat_pmt.specs.Pat.{pat_body, HasPid as HasProgramPid}
 use Rattle.pat_pmt.specs.Pmt.{HasPid, FitsComponent, FitsPmt, component_bytes, language_descriptors, pmt_body}
 use Rattle.nit_sdt.proofs.Networks.{cable_small, nit-has_its_size}
-use Rattle.nit_sdt.specs.Nit.{FitsStream, nit_body, stream_size}
-use Rattle.nit_sdt.specs.Bodies.{CanBeWritten}
+use Rattle.nit_sdt.specs.Nit.{FitsStream, CanBeWritten, nit_body, stream_size}
 use Rattle.publication.specs.Programs.{program_entry, pat_of, pmt_of}
 use Rattle.publication.specs.Network.{kind_of, remote_kind, stream_of, other_stream, nit_of}
 

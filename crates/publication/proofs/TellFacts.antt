@@ -1,6 +1,6 @@
 -- Receivers take the sub-tables of a publication as they are meant.
-use Rattle.std.proofs.Common.{◌≡◌, ℕ, ◌+◌, ◌<◌, ◌≤◌, Bool, true, false, List, [], ◌∷◌, length, Option, Some, None, refl, sym, ap, ap₂, ◌∙◌, arith, le-leb}
-use Rattle.std.specs.Prelude.{if◌then◌else◌, option_and_then}
+use Rattle.std.proofs.Common.{◌≡◌, ℕ, ◌<◌, ◌≤◌, Bool, true, false, List, [], ◌∷◌, length, Option, Some, None, refl, sym, ap, ap₂, ◌∙◌, arith, le-leb}
+use Rattle.std.specs.Prelude.{if◌then◌else◌, is_some, option_and_then}
 use Rattle.std.specs.List.{AllByRecursion}
 use Rattle.std.proofs.lemmas.Bool.{false≢true}
 use Rattle.std.proofs.lemmas.Bool.Decides.{nat_tests}
@@ -33,21 +33,19 @@ use Rattle.section_codec.proofs.ContentFacts.{last_number-from}
 use Rattle.sub_collect.proofs.Whole.{from_zero}
 use Rattle.sub_collect.proofs.Segmented.{by_segments}
 use Rattle.eit_codec.specs.declared.eit.Eit.{Eit}
-use Rattle.eit_codec.specs.Eit.{IsTyped, IsEit}
-use Rattle.eit_codec.proofs.ReadBodies.{read_bodies}
+use Rattle.eit_codec.specs.Eit.{IsTyped, eit_in}
 use Rattle.eit_tables.specs.Eit.{Bearer, own, bearer_key}
 use Rattle.eit_tables.specs.Present.{present_of}
 use Rattle.eit_tables.specs.Schedule.{schedule_of}
 use Rattle.eit_tables.specs.Laws.{AreSmallEntries, AreEit, Names}
 use Rattle.eit_tables.proofs.EntryFacts.{typed_small}
 use Rattle.eit_tables.proofs.EitFacts.{present_fit, schedule_fit, events_name, events_read}
-use Rattle.pat_pmt.specs.Pat.{pat_body}
-use Rattle.pat_pmt.specs.Pmt.{pmt_body}
-use Rattle.pat_pmt.specs.Bodies.{is_pat_body, is_pmt_body}
-use Rattle.pat_pmt.proofs.Bodies.{written_pats, written_pmts}
-use Rattle.nit_sdt.specs.Nit.{nit_body}
-use Rattle.nit_sdt.specs.Bodies.{is_nit_body, is_sdt_body}
-use Rattle.nit_sdt.proofs.Bodies.{written_nits}
+use Rattle.pat_pmt.specs.Pat.{pat_body, is_pat_body}
+use Rattle.pat_pmt.specs.Pmt.{pmt_body, is_pmt_body}
+use Rattle.pat_pmt.proofs.Programs.{written_pats, pmt-reads_back}
+use Rattle.nit_sdt.specs.Nit.{nit_body, is_nit_body}
+use Rattle.nit_sdt.specs.Sdt.{is_sdt_body}
+use Rattle.nit_sdt.proofs.Networks.{written_nits}
 use Rattle.publication.specs.Sections.{single_table}
 use Rattle.publication.specs.Programs.{pat_of, pat_key, pat_table, pmt_of, pmt_key, pmt_table}
 use Rattle.publication.specs.Network.{kind_of, remote_kind, own_kinds, remote_kinds, nit_of, nit_key, nit_table}
@@ -118,7 +116,7 @@ pmt_tells s sound =
     (λ header table ext.
     key_by_fields pid header 0x02 s.service body table ext
     ∙ ap (key_named pid 0x02 s.service body) (pmts_named pid above below))
-    (never no_pat) (λ e. written_pmts (pmt_of s) (pmt_fits s sound)) (never no_nit) no_sdt
+    (never no_pat) (λ e. ap is_some (pmt-reads_back (pmt_of s) (pmt_fits s sound))) (never no_nit) no_sdt
 
 nit_tells : (mux : Mux) → IsSound mux → mux.network < 65536 → TellsItself (nit_table mux)
 nit_tells mux sound network =
@@ -170,20 +168,20 @@ eit_keyed bearer table service events s least names header is_table is_ext =
     ∙ ap (λ (n : ℕ). Some (key n (two_at 2 s.body))) names.0 ∙ ap (λ (n : ℕ). Some (key bearer.stream n)) names.1
 
 eit_tells : (bearer : Bearer) (table service : ℕ) (tier : Tier3) (sections : List NumberedBody) → is_events 0x0012 table ≡ true → is_eit table ≡ true → table < 256 → service < 65536
-    → AreEit sections → AllByRecursion (λ (s : NumberedBody). Names bearer s.body) sections → AllByRecursion (λ (s : NumberedBody). (eit : Eit) × IsEit s.body eit) sections
+    → AreEit sections → AllByRecursion (λ (s : NumberedBody). Names bearer s.body) sections → AllByRecursion (λ (s : NumberedBody). (eit : Eit) × (eit_in s.body ≡ Some eit)) sections
     → TellsItself (eit_table bearer table service tier sections)
 eit_tells bearer table service tier sections events eit few id are names read =
     let sized = λ (s : NumberedBody). (6 ≤ length s.body) × (length s.body ≤ 4084) in
     let named = λ (s : NumberedBody). Names bearer s.body in
     let told = λ (s : NumberedBody). (n : ℕ) × (segment_last_in s.number s.body ≡ Some n) × (n ≤ last_number sections) in
-    let is_read = λ (s : NumberedBody). (e : Eit) × IsEit s.body e in
+    let is_read = λ (s : NumberedBody). (e : Eit) × (eit_in s.body ≡ Some e) in
     record {
       table = few;
       ext = id;
       last = are.below;
       numbered = by_segments (bearer_key bearer table service) sections eit are.by_segments;
       keyed = all_two sized named (TellsKey (bearer_key bearer table service)) (λ s size name. eit_keyed bearer table service events s size.0 name) sections are.bodies names;
-      read = λ e. all_two is_read told (IsReadEit (last_number sections)) (λ s r t. record { body = read_bodies s.body r.0 r.1; told = t }) sections read are.told;
+      read = λ e. all_two is_read told (IsReadEit (last_number sections)) (λ s r t. record { body = ap is_some r.1; told = t }) sections read are.told;
       pat = never refl;
       pmt = never refl;
       nit = never refl;

@@ -6,18 +6,16 @@ use Rattle.std.proofs.lemmas.List.{map-append}
 use Rattle.std.proofs.lemmas.List.Elements.{All-from_recursion, All-take, All-drop}
 use Rattle.guide_model.specs.declared.event.Event.{Event}
 use Rattle.guide_model.specs.declared.screen.ScreenEvent.{ScreenEvent}
-use Rattle.eit_codec.specs.declared.eit.EitHead.{EitHead}
 use Rattle.eit_codec.specs.declared.eit.Eit.{Eit}
-use Rattle.eit_codec.specs.Eit.{IsCodable, IsTyped, eit_body, shown_event}
+use Rattle.eit_codec.specs.Eit.{IsCodable, IsTyped, eit_body, eit_in, shown_event}
 use Rattle.eit_codec.proofs.ReadBack.{eit-reads_back}
 use Rattle.eit_segments.specs.declared.piece.Piece.{Piece}
 use Rattle.eit_segments.specs.Schedule.{section_events}
 use Rattle.eit_tables.specs.Eit.{Bearer, eit_head}
 use Rattle.eit_tables.specs.Present.{event_at as events_at_place, present_event, following_event, present_sections}
 use Rattle.eit_tables.specs.Schedule.{schedule_section}
-use Rattle.guide_screen.specs.Reading.{eit_in, events_in}
+use Rattle.guide_screen.specs.Reading.{events_in}
 use Rattle.guide_screen.specs.Screen.{first_of, event_at}
-use Rattle.guide_screen.proofs.Saying.{bodies_say}
 use Rattle.publication_screen.specs.Screen.{first_shown}
 
 -- the ids of the stream have 16 bits
@@ -28,9 +26,7 @@ pub record HasIds (b : Bearer) : Type 0 where
 body_said : (b : Bearer) → HasIds b → (segment_last last_table status : ℕ) → status < 8 → (part : List Event) → All IsCodable part → All IsTyped part
     → eit_in (eit_body (eit_head b segment_last last_table) status part) ≡ Some (record { head = eit_head b segment_last last_table; events = map shown_event part })
 body_said b ids segment_last last_table status small part codable typed =
-    let h : EitHead = eit_head b segment_last last_table in
-    let eit : Eit = record { head = h; events = map shown_event part } in
-    bodies_say.eit (eit_body h status part) eit (eit-reads_back h status part (record { stream = ids.stream; original = ids.original }) small codable typed)
+    eit-reads_back (eit_head b segment_last last_table) status part (record { stream = ids.stream; original = ids.original }) small codable typed
 
 -- ---- present and following
 

@@ -19,17 +19,16 @@ use Rattle.guide_limits.specs.Limits.{IsServiceWithin, IsGuideWithin}
 use Rattle.longest_runs.specs.Runs.{longest_runs}
 use Rattle.longest_runs.proofs.RunFacts.{are_longest}
 use Rattle.pat_pmt.specs.Pat.{pat_in, pat_body, FitsProgram}
-use Rattle.pat_pmt.specs.Pmt.{pmt_body}
+use Rattle.pat_pmt.specs.Pmt.{pmt_body, pmt_in}
 use Rattle.pat_pmt.proofs.Programs.{pat-reads_back, pmt-reads_back}
 use Rattle.desc_service.specs.declared.service_list.ServiceKind.{ServiceKind}
 use Rattle.nit_sdt.specs.declared.sdt.SdtService.{SdtService}
 use Rattle.nit_sdt.specs.declared.sdt.Sdt.{Sdt}
-use Rattle.nit_sdt.specs.Nit.{nit_body, FitsStream, HasStreamWidths, NitReadsBack}
-use Rattle.nit_sdt.specs.Sdt.{HasServiceWidths, SdtReadsBack}
-use Rattle.guide_screen.specs.Reading.{services_in, pmt_in, nit_in, sdt_in}
+use Rattle.nit_sdt.specs.Nit.{nit_body, nit_in, FitsStream, HasStreamWidths, NitReadsBack}
+use Rattle.nit_sdt.specs.Sdt.{sdt_in, HasServiceWidths, SdtReadsBack}
+use Rattle.guide_screen.specs.Reading.{services_in}
 use Rattle.guide_screen.specs.Needs.{with_service, by_service}
 use Rattle.guide_screen.specs.Screen.{pid_in, cable_in}
-use Rattle.guide_screen.proofs.Saying.{bodies_say}
 use Rattle.publication.specs.Programs.{program_entry, pat_of, pmt_of}
 use Rattle.publication.specs.Network.{nit_of, kind_of, remote_kind, own_kinds, remote_kinds, other_stream}
 use Rattle.publication.specs.Parts.{part_of}
@@ -49,7 +48,7 @@ pat_said mux sound =
     pat-reads_back (pat_of mux) (record { program = omega arith; pid = omega arith }, programs_fit mux.services sound.services)
 
 pub pmt_said : (s : MuxService) → IsSoundService s → pmt_in (pmt_body (pmt_of s)) ≡ Some (pmt_of s)
-pmt_said s sound = bodies_say.pmt (pmt_body (pmt_of s)) (pmt_of s) (pmt-reads_back (pmt_of s) (pmt_fits s sound))
+pmt_said s sound = pmt-reads_back (pmt_of s) (pmt_fits s sound)
 
 -- the PID of each PMT is found under its program
 pub pids_said : (ss : List MuxService) → DoAscend ss → AllByRecursion (λ (s : MuxService). pid_in s.service (map program_entry ss) ≡ Some s.pmt_pid) ss
@@ -72,13 +71,12 @@ pids_said (s ∷ ss) up = (
 
 pub nit_said : NitReadsBack → (mux : Mux) → IsSoundWithIds mux → IsKept mux.network_name → nit_in (nit_body (nit_of mux)) ≡ Some (nit_of mux)
 nit_said back mux sound kept =
-    bodies_say.nit (nit_body (nit_of mux)) (nit_of mux)
-    (back (nit_of mux) (record {
+    back (nit_of mux) (record {
       name = name_fits mux sound.sound;
       shown = decoded-coded mux.network_name kept;
       streams = (record { stream = sound.stream; original = sound.original; services = kinds_fit mux.services sound.sound.services; fits = fits.0 }, others_fit mux.others sound.others sound.sound.others.each fits.1);
       within = omega (arith, streams_short mux sound.sound);
-    }))
+    })
   where
     kinds_fit : (ss : List MuxService) → AllByRecursion IsSoundService ss → AllByRecursion (λ k. k.service < 65536) (map kind_of ss)
     kinds_fit [] all = tt
@@ -127,8 +125,7 @@ sections_said : SdtReadsBack → (original : ℕ) → original < 65536 → (n : 
 sections_said back original lt n [] all = refl
 sections_said back original lt n (run ∷ runs) all =
     let sdt : Sdt = record { original = original; services = run } in
-    let said : sdt_in (section_body original run) ≡ Some sdt =
-    bodies_say.sdt (section_body original run) sdt (back sdt (record { original = lt; services = all.0 })) in
+    let said : sdt_in (section_body original run) ≡ Some sdt = back sdt (record { original = lt; services = all.0 }) in
     ap₂ (λ (o : Option Sdt) (l : List SdtService). unwrap_or (option_map (λ (x : Sdt). x.services) o) [] ++ l) said
     (sections_said back original lt (1 + n) runs all.1)
 

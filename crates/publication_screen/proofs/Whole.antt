@@ -30,7 +30,8 @@ use Rattle.pat_pmt.specs.declared.pmt.Pmt.{Pmt}
 use Rattle.nit_sdt.specs.declared.nit.Nit.{Nit}
 use Rattle.nit_sdt.specs.declared.nit.NitStream.{NitStream}
 use Rattle.nit_sdt.specs.declared.sdt.SdtService.{SdtService}
-use Rattle.nit_sdt.specs.Nit.{nit_body, NitReadsBack}
+use Rattle.pat_pmt.specs.Pmt.{pmt_in}
+use Rattle.nit_sdt.specs.Nit.{nit_body, nit_in, NitReadsBack}
 use Rattle.nit_sdt.specs.Sdt.{SdtReadsBack}
 use Rattle.eit_tables.specs.Eit.{own, eit_key}
 use Rattle.eit_tables.specs.Laws.{HasTypedEvents}
@@ -41,7 +42,7 @@ use Rattle.guide_screen.specs.declared.need.Need.{Need}
 use Rattle.guide_screen.specs.declared.need.Need.TheVariants.{Pat, Nit as NeedNit, Sdt, Clock, Pmt as NeedPmt}
 use Rattle.guide_screen.specs.declared.need.Heard.TheVariants.{Whole}
 use Rattle.guide_screen.specs.View.{View, sections, sections_at, sdt_behind, sdt_of, table_at, pmt_key as guide_pmt_key}
-use Rattle.guide_screen.specs.Reading.{programs_in, services_in, streams_in, nit_in, pmt_in, value_in}
+use Rattle.guide_screen.specs.Reading.{programs_in, services_in, streams_in, value_in}
 use Rattle.guide_screen.specs.Needs.{Want, by_service, last_table, needs, programs_of, schedule_tables, services_of, tables_to, unless, unmet_of, want_pmt, want_service, want_services, want_table, wants}
 use Rattle.guide_screen.specs.Screen.{cable_in, event_at, heard_by, heard_of, network_name, other_streams, pid_in, pmt_of, pmt_pid, schedule_of, screen, screen_service}
 use Rattle.publication.specs.Network.{kind_of, own_kinds, other_stream as stream_sent, nit_key, nit_of, nit_table}

@@ -1,4 +1,3 @@
-pub mod Same
-pub mod Reading
-pub mod Looked
-pub mod Looks
+pub mod Steps
+pub mod Written
+pub mod Whole

@@ -1,4 +1,4 @@
 pub mod Entries
 pub mod First
-pub mod Loops
+pub mod Laws
 pub mod Rows

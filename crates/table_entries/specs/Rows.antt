@@ -1,32 +1,36 @@
--- Worked loops of entries, looked at.
-use Rattle.std.specs.Prelude.{◌≡◌, [], ◌∷◌, true, false, refl}
-use Rattle.table_entries.specs.Loops.{are_entries, behind_entry, begins_with_entry}
+-- Worked loops of entries, read as their fields.
+use Rattle.std.specs.Prelude.{◌≡◌, ℕ, List, [], ◌∷◌, Option, Some, None, refl}
+use Rattle.desc_parts.specs.declared.descriptors.RawDesc.{RawDesc}
+use Rattle.table_entries.specs.Entries.{entries_in, split_in, descriptors_in}
+
+abbrev fields_in : List ℕ → List RawDesc → Option (List ℕ)
+fields_in fields descs = Some fields
 
 -- ---- one byte of fields, bits that are all 1, and a descriptor without a body
 
-row_entry : are_entries 1 (0x07 ∷ 0xF0 ∷ 0x02 ∷ 0x7F ∷ 0x00 ∷ []) ≡ true
+row_entry : entries_in 1 fields_in (0x07 ∷ 0xF0 ∷ 0x02 ∷ 0x7F ∷ 0x00 ∷ []) ≡ Some ((0x07 ∷ []) ∷ [])
 row_entry = refl
 
 -- reserved bits may have any value
-row_bits : are_entries 1 (0x07 ∷ 0x50 ∷ 0x02 ∷ 0x7F ∷ 0x00 ∷ []) ≡ true
+row_bits : entries_in 1 fields_in (0x07 ∷ 0x50 ∷ 0x02 ∷ 0x7F ∷ 0x00 ∷ []) ≡ Some ((0x07 ∷ []) ∷ [])
 row_bits = refl
 
-row_none : are_entries 1 [] ≡ true
+row_none : entries_in 1 fields_in [] ≡ Some []
 row_none = refl
 
 -- cut, and with a descriptor that runs past the end of its loop
-row_cut : are_entries 1 (0x07 ∷ 0xF0 ∷ 0x02 ∷ 0x7F ∷ []) ≡ false
+row_cut : entries_in 1 fields_in (0x07 ∷ 0xF0 ∷ 0x02 ∷ 0x7F ∷ []) ≡ None
 row_cut = refl
 
-row_past : are_entries 1 (0x07 ∷ 0xF0 ∷ 0x02 ∷ 0x7F ∷ 0x01 ∷ 0x00 ∷ []) ≡ false
+row_past : entries_in 1 fields_in (0x07 ∷ 0xF0 ∷ 0x02 ∷ 0x7F ∷ 0x01 ∷ 0x00 ∷ []) ≡ None
 row_past = refl
 
 -- a byte more begins a second entry, and the bytes end within it
-row_more : are_entries 1 (0x07 ∷ 0xF0 ∷ 0x00 ∷ 0x07 ∷ []) ≡ false
+row_more : entries_in 1 fields_in (0x07 ∷ 0xF0 ∷ 0x00 ∷ 0x07 ∷ []) ≡ None
 row_more = refl
 
-row_behind : behind_entry 1 (0x07 ∷ 0xF0 ∷ 0x02 ∷ 0x7F ∷ 0x00 ∷ 0x09 ∷ []) ≡ 0x09 ∷ []
+row_behind : split_in 1 (0x07 ∷ 0xF0 ∷ 0x02 ∷ 0x7F ∷ 0x00 ∷ 0x09 ∷ []) ≡ Some (record { fields = 0x07 ∷ []; descriptors = 0x7F ∷ 0x00 ∷ [] }, 0x09 ∷ [])
 row_behind = refl
 
-row_begins : begins_with_entry 1 (0x07 ∷ 0xF0 ∷ 0x02 ∷ 0x7F ∷ 0x00 ∷ 0x09 ∷ []) ≡ true
-row_begins = refl
+row_descriptors : descriptors_in (0x54 ∷ 0x01 ∷ 0x20 ∷ 0x7F ∷ 0x00 ∷ []) ≡ Some (record { tag = 0x54; body = 0x20 ∷ [] } ∷ record { tag = 0x7F; body = [] } ∷ [])
+row_descriptors = refl

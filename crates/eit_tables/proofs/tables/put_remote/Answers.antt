@@ -1,4 +1,4 @@
-use Rattle.std.proofs.Common.{◌≡◌, ℕ, ◌+◌, ◌∷◌, ◌++◌, [], map, min, ap, ◌∙◌, arith}
+use Rattle.std.proofs.Common.{◌≡◌, ℕ, ◌+◌, ◌∷◌, ◌++◌, [], map, ap, ◌∙◌}
 use Rattle.si_lists.proofs.Outcomes.{on_ok, ok_more}
 use Rattle.section_codec.specs.declared.table.SubTable.{SubTable}
 use Rattle.eit_segments.specs.Schedule.{last_table}

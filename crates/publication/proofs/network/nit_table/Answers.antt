@@ -1,4 +1,4 @@
-use Rattle.std.proofs.Common.{◌<◌, sym, ap, subst, arith, sum_by}
+use Rattle.std.proofs.Common.{sym, ap, subst, arith, sum_by}
 use Rattle.std.specs.List.{All}
 use Rattle.nit_sdt.specs.declared.nit.Nit.{Nit}
 use Rattle.nit_sdt.specs.Nit.{FitsStream, stream_size}

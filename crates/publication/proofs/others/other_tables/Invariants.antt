@@ -1,4 +1,4 @@
-use Rattle.std.proofs.Common.{◌≡◌, ◌++◌, List, [], map}
+use Rattle.std.proofs.Common.{◌≡◌, ◌++◌, map}
 use Rattle.std.specs.Prelude.{take, flat_map}
 use Rattle.std.specs.List.{AllByRecursion}
 use Rattle.mux_model.specs.declared.mux.Other.{Other}

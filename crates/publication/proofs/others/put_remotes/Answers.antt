@@ -1,7 +1,7 @@
-use Rattle.std.proofs.Common.{◌≡◌, ◌≤◌, ◌<◌, List, [], ◌∷◌, ◌++◌, Bor, get_or, length, sym, ap, ◌∙◌, subst, arith, append-nil, map, flat_map}
-use Rattle.std.specs.Prelude.{take, Option, Some, IfSome, unwrap_or, slice_get}
+use Rattle.std.proofs.Common.{◌≡◌, ◌<◌, List, [], ◌∷◌, ◌++◌, Bor, get_or, length, sym, ap, ◌∙◌, subst, arith, append-nil}
+use Rattle.std.specs.Prelude.{Option, Some, IfSome, unwrap_or, slice_get}
 use Rattle.std.specs.Option.{option_copied}
-use Rattle.std.proofs.lemmas.List.{take_all, length-map}
+use Rattle.std.proofs.lemmas.List.{length-map}
 use Rattle.si_time.specs.declared.moment.Moment.{Moment}
 use Rattle.guide_model.specs.declared.guide.ServiceGuide.{ServiceGuide}
 use Rattle.mux_model.specs.declared.mux.RemoteService.{RemoteService}
@@ -11,7 +11,6 @@ use Rattle.eit_tables.specs.Present.{present_of}
 use Rattle.eit_tables.specs.Schedule.{remote_tables}
 use Rattle.eit_tables.specs.Laws.{AreSmallEntries}
 use Rattle.eit_tables.proofs.ListFacts.{all_next}
-use Rattle.publication.specs.Laws.{HaveSmallEntries}
 use Rattle.publication.specs.Parts.{no_part, part_of, remote_guide}
 use Rattle.publication.specs.Tables.{bearer_of}
 use Rattle.publication.proofs.ListFacts.{flat_behind, map_behind}

@@ -7,7 +7,7 @@ use Rattle.eit_tables.specs.Present.{present_table}
 use Rattle.eit_tables.specs.Schedule.{near_tables, far_tables}
 use Rattle.eit_tables.specs.Laws.{AreSmallEntries}
 use Rattle.publication.specs.Parts.{own_guide}
-use Rattle.publication.specs.Tables.{mux_tables, all_remote_schedules}
+use Rattle.publication.specs.Tables.{mux_tables}
 use Rattle.publication.proofs.TableFacts.{other_near}
 use Rattle.publication.proofs.tables.build.Given as goal
 
