@@ -1,7 +1,6 @@
 -- The text of a checkpoint.
-use Rattle.std.specs.Prelude.{ℕ, ◌+◌, ◌++◌, Bool, true, false, List, [], Option, Some, None, flat_map, map, codes}
+use Rattle.std.specs.Prelude.{ℕ, ◌+◌, ◌<◌, ◌++◌, Bool, true, false, List, [], Option, Some, None, flat_map, map, codes}
 use Rattle.std.specs.List.{AllByRecursion}
-use Rattle.table_entries.specs.Loops.{AreBytes}
 use Rattle.section_codec.specs.declared.table.Key.{Key}
 use Rattle.section_codec.specs.declared.table.NumberedBody.{NumberedBody}
 use Rattle.version_book.specs.Book.{GivenVersion, GivenVersions}
@@ -54,6 +53,10 @@ section_text section = line_text (section_fields section)
 -- a key with what it was last given: its version, and then the sections of its content
 abbrev pub key_text : Key × GivenVersion → List ℕ
 key_text entry = line_text (version_fields entry.0 entry.1.version) ++ flat_map section_text entry.1.content
+
+-- each number of a list is a byte
+abbrev pub AreBytes : List ℕ → Type 0
+AreBytes numbers = AllByRecursion (λ (n : ℕ). n < 256) numbers
 
 -- the bodies of its sections are of bytes
 abbrev pub HasByteContent : Key × GivenVersion → Type 0

@@ -4,7 +4,6 @@ ghost use Rattle.std.specs.List.{AllByRecursion};
 ghost use Rattle.mux_model.specs.Sound.{IsSound};
 ghost use Rattle.mux_model.specs.Fed.{fed_services};
 ghost use Rattle.si_text.specs.Decoding.{IsKept};
-ghost use Rattle.table_entries.specs.Loops.{AreBytes};
 ghost use Rattle.guide_limits.specs.Limits.{IsGuideWithin, IsServiceWithin, IsEventWithin};
 ghost use Rattle.version_book.specs.Book.{given_entries, given_entry};
 ghost use Rattle.journal_model.specs.Steps.{IsStepInWindow};
@@ -15,7 +14,7 @@ ghost use Rattle.desk_checkpoint.specs.Fields.{clock_fields, count_fields, versi
 ghost use Rattle.desk_core.specs.Journal.{publishes};
 ghost use Rattle.timed_player.specs.Clock.{reads};
 ghost use Rattle.desk_checkpoint.specs.HandedOver.{HandsOver};
-ghost use Rattle.desk_checkpoint.specs.Text.{HasByteBodies, HasByteContent, clock_text, counter_text, desk_steps, edits_of, feed_steps, key_text};
+ghost use Rattle.desk_checkpoint.specs.Text.{AreBytes, HasByteBodies, HasByteContent, clock_text, counter_text, desk_steps, edits_of, feed_steps, key_text};
 ghost use Rattle.desk_checkpoint.specs.Text.{put_text, section_text, service_text, start_text, step_text, steps_text};
 
 use command_text::{LineWriter, write_command};
@@ -30,7 +29,6 @@ use si_base::Copies;
 use si_text::Txt;
 use si_time::{write_duration, write_moment};
 use std::alloc::{AllocError, Global};
-use table_entries::are_bytes;
 use ts_packets::PidCounter;
 use version_book::KeyVersion;
 
@@ -312,6 +310,11 @@ fn put_steps(
 }
 
 // ---- keys and counters
+
+// The numbers of a slice are bytes, as its type says. It does nothing when run.
+fn are_bytes(bytes: &[u8])
+    ensures { AreBytes bytes.now }
+{}
 
 fn put_section(alloc: Global, out: &mut Vec<u8>, section: &NumberedBody) -> Result<(), AllocError>
     ensures text { OnOk result (out.new.items ≡ out.old.items ++ section_text section.now) }

@@ -11,7 +11,7 @@ use Rattle.guide_limits.specs.Standing.{last_or}
 use Rattle.journal_model.specs.declared.step.Step.{Step}
 use Rattle.journal_model.specs.declared.step.Step.TheVariants.{Edit as edit, Tick, Publish, Swap}
 use Rattle.journal_model.specs.declared.step.Outcome.{Outcome}
-use Rattle.journal_model.specs.declared.step.Outcome.TheVariants.{Edited, Ticked, Late, Published, Swapped}
+use Rattle.journal_model.specs.declared.step.Outcome.TheVariants.{Ticked}
 use Rattle.journal_model.specs.declared.step.Entry.{Entry}
 use Rattle.journal_model.specs.Steps.{IsStepWithin, IsStepInWindow}
 use Rattle.desk_core.specs.Journal.{Legal, LegalAfter, later_of, latest_of_all, ticked_by, moment_of, outcome_of}

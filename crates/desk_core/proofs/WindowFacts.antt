@@ -21,7 +21,7 @@ ticked_range now at h = elim (cases_Bool (nat_lt at.0 now.0)) [
   | inr later ↦ rw later tt
 ]
 
-step_window : (mux : Mux) (before : List Entry) (step : Step) → InRange (moment_of mux before) → IsInWindow (outcome_of mux before step)
+pub step_window : (mux : Mux) (before : List Entry) (step : Step) → InRange (moment_of mux before) → IsInWindow (outcome_of mux before step)
 step_window mux before (edit feed e) range = tt
 step_window mux before (Tick at) range = ticked_range (moment_of mux before) at range
 step_window mux before Publish range = tt

@@ -37,7 +37,7 @@ use Rattle.epg_play.proofs.RunFacts.{plain_course, raised_none}
 
 -- ---- an outcome agrees with itself
 
-kept_agrees : (n : ℕ) (kept found : Outcome) → kept ≡ found → difference (Some (n, kept)) found ≡ None
+pub kept_agrees : (n : ℕ) (kept found : Outcome) → kept ≡ found → difference (Some (n, kept)) found ≡ None
 kept_agrees n kept found e = ap (λ (b : Bool). let o : Option Stop = if b then None else Some (Disagreed n kept found) in o) (subst (λ (o : Outcome). is_outcome kept o ≡ true) e (outcome_law.laws-law.refl kept))
 
 -- ---- the entries of a journal
@@ -78,14 +78,14 @@ closed_some : (front : List ℕ) → raw_lines (front ++ 10 ∷ []) ≢ []
 closed_some [] = some_line 10 []
 closed_some (b ∷ bs) = some_line b (bs ++ 10 ∷ [])
 
-lines_joined : (front rest : List ℕ) → raw_lines ((front ++ 10 ∷ []) ++ rest) ≡ raw_lines (front ++ 10 ∷ []) ++ raw_lines rest
+pub lines_joined : (front rest : List ℕ) → raw_lines ((front ++ 10 ∷ []) ++ rest) ≡ raw_lines (front ++ 10 ∷ []) ++ raw_lines rest
 lines_joined [] rest = refl
 lines_joined (b ∷ bs) rest = elim (cases_Bool (b == 10)) [
   | inl lf ↦ rw lf (ap (λ (l : List (List ℕ)). [] ∷ l) (lines_joined bs rest))
   | inr other ↦ rw other (ap (onto b) (lines_joined bs rest) ∙ onto_joined b (raw_lines (bs ++ 10 ∷ [])) (raw_lines rest) (closed_some bs))
 ]
 
-records_joined : (n : ℕ) (xs ys : List (List ℕ)) → record_lines n (xs ++ ys) ≡ record_lines n xs ++ record_lines (n + length xs) ys
+pub records_joined : (n : ℕ) (xs ys : List (List ℕ)) → record_lines n (xs ++ ys) ≡ record_lines n xs ++ record_lines (n + length xs) ys
 records_joined n [] ys = ap (λ k. record_lines k ys) (let e : n ≡ n + 0 = omega arith in e)
 records_joined n (x ∷ xs) ys =
     let more : n + 1 + length xs ≡ n + length {A = List ℕ} (x ∷ xs) = omega arith in
@@ -114,7 +114,7 @@ more_with rows behind more tail end fault b done made goes_on goes_more next e =
     by_fault None true same = came_more done same
     by_fault None false same = next same
 
-more_behind : (before : List Numbered) (rows behind more : List Row) (tail end : Tail) (made : Description) → described_from before rows tail ≡ Came made (record { rows = behind; tail = tail })
+pub more_behind : (before : List Numbered) (rows behind more : List Row) (tail end : Tail) (made : Description) → described_from before rows tail ≡ Came made (record { rows = behind; tail = tail })
     → described_from before (rows ++ more) end ≡ Came made (record { rows = behind ++ more; tail = end })
 more_behind before [] behind more tail end made e = cc e
 more_behind before (row ∷ rows) behind more tail end made e =

@@ -13,30 +13,12 @@ use Rattle.journal_model.specs.declared.step.Outcome.TheVariants.{Edited, Ticked
 use Rattle.journal_model.specs.declared.step.Entry.{Entry}
 use Rattle.desk_core.specs.Journal.{LegalAfter, Legal, moment_of, outcome_of, publishes, ticked}
 use Rattle.desk_core.proofs.DerivedFacts.{few_publishes}
+use Rattle.desk_core.proofs.LeanFacts.{step_numbered}
+use Rattle.desk_core.specs.Lean.{IsNumbered}
 use Rattle.journal_model.specs.Steps.{IsInWindow}
 use Rattle.checkpoint_laws.specs.Going.{raised}
 use Rattle.desk_checkpoint.specs.Raising.{CanBeRaised}
 use Rattle.epg_play.proofs.WindowFacts.{at_place}
-
--- the number of the outcome's publication is at most this
-abbrev pub IsNumbered : ℕ → Outcome → Type 0
-IsNumbered most (Edited reply) = Unit {0}
-IsNumbered most Ticked = Unit {0}
-IsNumbered most (Late at) = Unit {0}
-IsNumbered most (Published n) = n ≤ most
-IsNumbered most (Swapped n at) = n ≤ most
-
-ticked_numbered : (most : ℕ) (now at : Moment) → IsNumbered most (ticked now at)
-ticked_numbered most now at = elim (cases_Bool (nat_lt at.0 now.0)) [
-  | inl late ↦ rw late tt
-  | inr later ↦ rw later tt
-]
-
-step_numbered : (mux : Mux) (before : List Entry) (step : Step) (most : ℕ) → 1 + publishes before ≤ most → IsNumbered most (outcome_of mux before step)
-step_numbered mux before (edit feed e) most le = tt
-step_numbered mux before (Tick at) most le = ticked_numbered most (moment_of mux before) at
-step_numbered mux before Publish most le = le
-step_numbered mux before Swap most le = omega (arith, le)
 
 after_numbered : (mux : Mux) (before entries : List Entry) (most : ℕ) → LegalAfter mux before entries → length before + length entries ≤ most → AllByRecursion (λ (entry : Entry). IsNumbered most entry.outcome) entries
 after_numbered mux before [] most legal le = tt
@@ -46,7 +28,7 @@ after_numbered mux before (x ∷ xs) most legal le =
       after_numbered mux (before ++ x ∷ []) xs most legal.1 (omega (arith, le, length-append before (x ∷ []))),
     )
 
-can_raise : (shift most : ℕ) (outcome : Outcome) → shift < 10 ^ 18 → most < 2 ^ 63 → IsNumbered most outcome → CanBeRaised shift outcome
+pub can_raise : (shift most : ℕ) (outcome : Outcome) → shift < 10 ^ 18 → most ≤ 2 ^ 63 → IsNumbered most outcome → CanBeRaised shift outcome
 can_raise shift most (Edited reply) low small numbered = tt
 can_raise shift most Ticked low small numbered = tt
 can_raise shift most (Late at) low small numbered = tt
@@ -57,7 +39,7 @@ can_raise shift most (Swapped n at) low small numbered = omega (arith, low, smal
 pub entries_raise : (mux : Mux) (entries : List Entry) (shift : ℕ) → Legal mux entries → length entries < 2 ^ 63 → shift < 10 ^ 18 → AllByRecursion (λ (entry : Entry). CanBeRaised shift entry.outcome) entries
 entries_raise mux entries shift legal small low =
     all_map (λ (entry : Entry). IsNumbered (length entries) entry.outcome) (λ (entry : Entry). CanBeRaised shift entry.outcome)
-    (λ entry numbered. can_raise shift (length entries) entry.outcome low small numbered) entries (after_numbered mux [] entries (length entries) legal (omega arith))
+    (λ entry numbered. can_raise shift (length entries) entry.outcome low (omega (arith, small)) numbered) entries (after_numbered mux [] entries (length entries) legal (omega arith))
 
 pub entry_raises : (mux : Mux) (entries : List Entry) (k : ℕ) (entry : Entry) (shift : ℕ) → Legal mux entries → slice_get entries k ≡ Some entry → length entries < 2 ^ 63 → shift < 10 ^ 18
     → CanBeRaised shift entry.outcome

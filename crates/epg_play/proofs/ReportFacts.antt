@@ -21,13 +21,13 @@ use Rattle.epg_play.specs.Reports.{ReportsTellJournals}
 
 -- ---- a line ends at the first LF
 
-abbrev is_inner : ℕ → Bool
+abbrev pub is_inner : ℕ → Bool
 is_inner b = not (b == 10)
 
-abbrev IsInner : List ℕ → Type 0
+abbrev pub IsInner : List ℕ → Type 0
 IsInner xs = list_all is_inner xs ≡ true
 
-is_no_end : (b : ℕ) → is_inner b ≡ true → (b == 10) ≡ false
+pub is_no_end : (b : ℕ) → is_inner b ≡ true → (b == 10) ≡ false
 is_no_end b h = elim (cases_Bool (b == 10)) [
   | inl e ↦ absurd (let k = rw e at h in cc k)
   | inr e ↦ e
@@ -53,7 +53,7 @@ lines_same xs ys us vs h k e = (
 
 -- ---- the line on a bit rate has one LF
 
-inner_append : (xs ys : List ℕ) → IsInner xs → IsInner ys → IsInner (xs ++ ys)
+pub inner_append : (xs ys : List ℕ) → IsInner xs → IsInner ys → IsInner (xs ++ ys)
 inner_append xs ys h k = list_all-append is_inner xs ys ∙ rw (h, k) refl
 
 glyph_inner : (d : ℕ) → is_inner (digit_glyph false d) ≡ true
@@ -74,7 +74,7 @@ digits_inner (suc k) n behind h =
       | inr e ↦ rw e (digits_inner k (n / 10) (digit_glyph false (n % 10) ∷ behind) more)
     ]
 
-decimal_inner : (n : ℕ) → IsInner (decimal n)
+pub decimal_inner : (n : ℕ) → IsInner (decimal n)
 unfolding digits
 decimal_inner n = digits_inner 64 n [] refl
 
@@ -92,7 +92,7 @@ kept_inner t = elim (cases_Bool (t.short == 0)) [
 ]
 
 -- nothing, or a line that begins with an r
-abbrev IsRateLine : List ℕ → Type 0
+abbrev pub IsRateLine : List ℕ → Type 0
 IsRateLine xs = (xs ≡ []) ⊎ ((body : List ℕ) × IsInner body × (xs ≡ 114 ∷ (body ++ 10 ∷ [])))
 
 line_shape : (xs ys : List ℕ) → IsInner xs → IsInner ys → IsRateLine (codes "rate," ++ xs ++ codes "," ++ ys ++ codes "\n")
@@ -103,7 +103,7 @@ line_shape xs ys h k =
       refl,
     )
 
-rate_shape : (rate : Option ℕ) (t : Tallied) → IsRateLine (rate_line rate t)
+pub rate_shape : (rate : Option ℕ) (t : Tallied) → IsRateLine (rate_line rate t)
 rate_shape None t = inl refl
 rate_shape (Some rate) t = line_shape (decimal rate) (kept_text t) (decimal_inner rate) (kept_inner t)
 

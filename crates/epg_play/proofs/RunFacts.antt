@@ -50,7 +50,7 @@ raised_none (Late at) = refl
 raised_none (Published n) = ap Published (zero-add n)
 raised_none (Swapped n at) = ap (λ (k : ℕ). Swapped k at) (zero-add n)
 
-none_raised : (entries : List Entry) → all_raised 0 entries ≡ entries
+pub none_raised : (entries : List Entry) → all_raised 0 entries ≡ entries
 none_raised [] = refl
 none_raised (e ∷ es) =
     ap (λ (o : Outcome). let x : Entry = record { who = e.who; step = e.step; outcome = o } in x ∷ all_raised 0 es) (raised_none e.outcome)

@@ -18,8 +18,8 @@ use std::alloc::{AllocError, Global};
 /// How many bytes a checkpoint may have.
 const CHECKPOINT_LIMIT: u64 = 1_073_741_824;
 
-// A head-end that did nothing yet.
-pub(crate) fn new_start(alloc: Global, mux: Mux) -> Result<Start, AllocError>
+/// A head-end of a sound multiplex that did nothing yet.
+pub fn new_start(alloc: Global, mux: Mux) -> Result<Start, AllocError>
     requires { IsSound mux }
     ensures { IfOk result (IsNew mux) }
 {
@@ -62,8 +62,11 @@ fn read_start<F: Source>(
     }
 }
 
-// Opens the file at a path, and reads the checkpoint that it holds.
-pub(crate) fn start_at<O: Opener>(
+/// Opens the file at a path, and reads the checkpoint that it holds, of at most 1,073,741,824 bytes.
+///
+/// `OpenFault(0)`, `ReadFault(Recording)`, `TooLong(Recording)` and `BadCheckpoint`, with the first line that may not stand there, say
+/// why there is none; `Memory` comes for want of it.
+pub fn start_at<O: Opener>(
     alloc: Global,
     mux: Mux,
     path: &str,

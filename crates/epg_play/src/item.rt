@@ -49,7 +49,8 @@ fn last_outcome(desk: &Desk, shift: u64) -> Option<Outcome>
     Some(raise(last.outcome, shift))
 }
 
-fn agree(kept: Outcome, found: Outcome) -> bool
+/// Whether an outcome that is kept is the desk's.
+pub fn agree(kept: Outcome, found: Outcome) -> bool
     ensures { result ≡ is_outcome kept found }
 {
     kept == found

@@ -42,7 +42,8 @@ mod report;
 mod run;
 mod stop;
 
-pub use item::{ItemDone, do_item};
+pub use begin::{new_start, start_at};
+pub use item::{ItemDone, agree, do_item};
 pub use laws::{
     checkpoints_are_never_refused, journals_play_again, outcomes_are_compared,
     plain_reports_are_journals, play_is_heard, reports_tell_journals,

@@ -2,6 +2,7 @@
 ghost use Rattle.std.specs.Prelude.{◌≡◌, ◌≤◌, ◌++◌, OnOk, codes, decimal};
 ghost use Rattle.journal_text.specs.Entries.{outcome_text};
 ghost use Rattle.journal_model.specs.Steps.{IsInWindow};
+ghost use Rattle.epg_report.specs.Told.{Reported, told};
 ghost use Rattle.epg_report.specs.Texts.{CanBeSaid, fault_lines, fault_text, has_line, mux_fault_text, opened as opened_by, origin_text, rule_text, word_text};
 
 use crate::status::{Origin, Outlet, Status};
@@ -222,9 +223,10 @@ pub fn put_fault_line(alloc: Global, out: &mut Vec<u8>, status: Status) -> Resul
     out.extend_from_slice(b"\n")
 }
 
-/// Ends a run for want of memory: what the report takes of the line that says so is not looked at.
+/// Ends a run for want of memory: the report takes the line that says so, or a front of it where it fails, which changes no status.
 pub fn out_of_memory<R: Sink>(report: &mut R) -> Status
     ensures status { result ≡ Status.Memory }
+    ensures took { Reported (told R.written R.faults report.old report.new) (fault_lines Status.Memory) }
     ensures later { R.faults report.old ≤ R.faults report.new }
 {
     let _ = write_all(report, b"fault: memory\n");

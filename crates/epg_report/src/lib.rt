@@ -4,8 +4,6 @@
 //! (`fault_text` of `specs/Texts.antt`). [`journal_of`] gives the text of a desk's journal, with
 //! which a report begins. [`put_rate_line`] appends what it says of the bit rate
 //! (`rate_lines` of `specs/Rates.antt`).
-//!
-//! Not promised: the line of `Memory`.
 #![tactic(auto)]
 
 mod ending;

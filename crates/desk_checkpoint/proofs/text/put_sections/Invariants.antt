@@ -1,8 +1,7 @@
 use Rattle.std.proofs.Common.{◌≡◌, ◌++◌, take, flat_map}
 use Rattle.std.specs.List.{AllByRecursion}
-use Rattle.table_entries.specs.Loops.{AreBytes}
 use Rattle.section_codec.specs.declared.table.NumberedBody.{NumberedBody}
-use Rattle.desk_checkpoint.specs.Text.{section_text}
+use Rattle.desk_checkpoint.specs.Text.{AreBytes, section_text}
 use Rattle.desk_checkpoint.proofs.text.put_sections.Given as goal
 
 abbrev pub invariant-loop-section : goal.invariant-loop-section
