@@ -8,9 +8,9 @@ use journal_model::{DayText, Edit};
 use si_text::Txt;
 use std::alloc::{AllocError, Global};
 
-// What the line of an edit gives: a whole edit, or a day and how many items follow on lines of their own.
+/// What the line of an edit gives: a whole edit, or a day and how many items follow on lines of their own.
 #[derive(Drop)]
-pub(crate) enum Head {
+pub enum Head {
     Whole(Edit),
     OfDay(u16, DayText, u32),
 }
@@ -80,9 +80,9 @@ fn read_day_head(fields: &[Txt]) -> Option<Head>
     Some(Head::OfDay(service as u16, date, count))
 }
 
-/// The edit that the fields of a line are, without the items of a day.
+/// The edit that the fields of a line are, without the items of a day; `None` exactly where they are no edit.
 #[tactic(auto, unfolding(crate::specs::Heads::edit_head))]
-pub(crate) fn read_head(alloc: Global, fields: &[Txt]) -> Result<Option<Head>, AllocError>
+pub fn read_head(alloc: Global, fields: &[Txt]) -> Result<Option<Head>, AllocError>
     ensures value { IfOk result (λ found. found ≡ edit_head fields.now) }
     ensures shaped { IfOk result (λ found. IfSome found IsShapedHead) }
 {

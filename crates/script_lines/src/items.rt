@@ -74,8 +74,9 @@ fn read_genre(alloc: Global, group: &str) -> Result<Option<Genre>, AllocError>
     Ok(genre_of_parts(&parts))
 }
 
-// GENRES
-fn read_genres(alloc: Global, field: &str) -> Result<Option<Genres>, AllocError>
+/// The genres of a field: groups `a.b.u` of numbers from 0 to 255, with single spaces between; an empty field has none. `None` comes
+/// exactly where the field is no such list.
+pub fn read_genres(alloc: Global, field: &str) -> Result<Option<Genres>, AllocError>
     ensures { IfOk result (λ found. found ≡ genres_of field.now) }
 {
     let mut genres = Genres::new(alloc);
@@ -158,9 +159,9 @@ pub(crate) fn read_item(alloc: Global, fields: &[Txt]) -> Result<Option<Item>, A
     }))
 }
 
-/// The event of a line `item,..`.
+/// The event of a line `item,..`; `None` exactly where the fields are no item.
 #[tactic(auto, unfolding(crate::specs::Items::item_line))]
-pub(crate) fn read_item_line(alloc: Global, fields: &[Txt]) -> Result<Option<Item>, AllocError>
+pub fn read_item_line(alloc: Global, fields: &[Txt]) -> Result<Option<Item>, AllocError>
     ensures value { IfOk result (λ found. found ≡ item_line fields.now) }
     ensures shaped { IfOk result (λ found. IfSome found IsShapedItem) }
 {

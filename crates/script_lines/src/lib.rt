@@ -26,9 +26,13 @@ mod words;
 
 pub use control::{next_control, read_control};
 pub use edits::{next_edit, read_edit};
+pub use heads::{Head, read_head};
 pub use input_lines::EditStop;
+pub use items::{read_genres, read_item_line};
 pub use journal_model::{DayItems, DayText, Edit, Item, Length, RawRating, Stamp};
 pub use kept_outcome::read_outcome;
 pub use laws::{edits_go_on, edits_read_back, items_go_on, read_edits_are_typed};
-pub use script::{ScriptItem, next_item, read_command};
+pub use script::{
+    ScriptItem, next_item, read_caller, read_command, read_feed, read_short, starts_outcome,
+};
 pub use words::field_word;

@@ -41,8 +41,8 @@ fn step_of(control: Control) -> Step
     }
 }
 
-// The step of these fields, where it is no edit.
-fn read_short(fields: &[Txt]) -> Option<Step>
+/// The step of these fields, where it is no edit: `swap`, or what a control line asks for. It takes no memory.
+pub fn read_short(fields: &[Txt]) -> Option<Step>
     ensures value { result ≡ short_step fields.now }
     ensures within { IfSome result IsStepWithin }
     ensures shaped { IfSome result IsShapedStep }
@@ -54,8 +54,8 @@ fn read_short(fields: &[Txt]) -> Option<Step>
     Some(step_of(control))
 }
 
-// The feed of an edit.
-fn read_feed(fields: &[Txt]) -> Option<u8>
+/// The feed of an edit: the N of `feed,N,` from 0 to 255. It takes no memory.
+pub fn read_feed(fields: &[Txt]) -> Option<u8>
     ensures { result ≡ feed_of fields.now }
 {
     let [word, feed, ..] = fields else {
@@ -68,8 +68,8 @@ fn read_feed(fields: &[Txt]) -> Option<u8>
     Some(feed as u8)
 }
 
-// The caller's number, where the first field is one.
-fn read_caller(fields: &[Txt]) -> Option<u32>
+/// The caller's number, where the first field is one. It takes no memory.
+pub fn read_caller(fields: &[Txt]) -> Option<u32>
     ensures { result ≡ caller_of fields.now }
 {
     match fields.first() {
@@ -133,7 +133,8 @@ pub fn read_command<S: Source>(
     }
 }
 
-fn starts_outcome(fields: &[Txt]) -> bool
+/// Whether the fields are those of an outcome line: the first is `=`. It takes no memory.
+pub fn starts_outcome(fields: &[Txt]) -> bool
     ensures { result ≡ is_outcome_line fields.now }
 {
     match fields.first() {

@@ -1,0 +1,8 @@
+pub mod Whys
+pub mod Faults
+pub mod Notings
+pub mod Heads
+pub mod Held
+pub mod Walks
+pub mod Sound
+pub mod Laws
