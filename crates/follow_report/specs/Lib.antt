@@ -1,0 +1,4 @@
+pub mod Whole
+pub mod Pieces
+pub mod Laws
+mod Rows
