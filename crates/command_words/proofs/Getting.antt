@@ -34,7 +34,7 @@ said found words some say = by (option_and_then live_of (settings_of words)) ref
   where
     by : (o : Option CommandLine) → option_and_then live_of (settings_of words) ≡ o → IsSome o → Said found words
     by None e is = cc is
-    by (Some (Play fold resume)) e is = absurd (say (Play fold resume) e)
+    by (Some (Play options resume)) e is = absurd (say (Play options resume) e)
     by (Some (Listen options)) e is = absurd (say (Listen options) e)
     by (Some (Soak number)) e is = absurd (say (Soak number) e)
     by (Some (Audit path nulls)) e is = absurd (say (Audit path nulls) e)

@@ -8,7 +8,7 @@ use Rattle.command_words.specs.declared.play.PlayWords.{PlayWords}
 use Rattle.command_words.specs.declared.listen.ListenWords.{ListenWords}
 use Rattle.command_words.specs.declared.setting.LiveOption.{LiveOption}
 use Rattle.command_words.specs.declared.setting.LiveOption.TheVariants as option
-use Rattle.command_words.specs.Grammar.{CommandLine, ListenOptions, Play, Listen, Live, Soak, Audit, Setting, Feed, Cycles, Join, View}
+use Rattle.command_words.specs.Grammar.{CommandLine, ListenOptions, PlayOptions, Play, Listen, Live, Soak, Audit, Setting, Feed, Cycles, Join, View}
 
 -- words as their bytes
 abbrev pub texts : {Y : Type 0} → List (String Y) → List (List ℕ)
@@ -26,8 +26,11 @@ abbrev pub said_live : LiveWords → CommandLine
 said_live live = Live (texts live.feeds.items) live.cycles live.join live.views
 
 -- the words of this `play` say this
+abbrev pub play_options_said : PlayWords → PlayOptions
+play_options_said play = record { fold = play.fold; follow = play.follow; keep_going = play.keep_going }
+
 abbrev pub said_play : PlayWords → CommandLine
-said_play play = Play play.fold (option_map string_bytes play.resume)
+said_play play = Play (play_options_said play) (option_map string_bytes play.resume)
 
 -- the words of this `audit` say this
 abbrev pub said_audit : AuditWords → CommandLine

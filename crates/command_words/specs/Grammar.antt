@@ -100,9 +100,24 @@ pub record ListenOptions : Type 0 where
   pub resync : Bool
   pub strict : Bool
 
+-- how a script is played: whether the report is a checkpoint, whether each entry is reported before the next line is read, and whether a
+-- line at fault is passed over
+pub record PlayOptions : Type 0 where
+  pub fold : Bool
+  pub follow : Bool
+  pub keep_going : Bool
+
+-- of a run that is not followed: its report is a checkpoint, or a journal
+abbrev pub played : Bool → PlayOptions
+played fold = record { fold = fold; follow = false; keep_going = false }
+
+-- of a run that is followed: it passes over each line at fault, or ends at the first
+abbrev pub followed : Bool → PlayOptions
+followed keep = record { fold = false; follow = true; keep_going = keep }
+
 pub data CommandLine : Type 0 where
-  -- whether the report is a checkpoint, and the path of the checkpoint from which it goes on
-  Play : Bool → Option (List ℕ) → CommandLine
+  -- how it plays, and the path of the checkpoint from which it goes on
+  Play : PlayOptions → Option (List ℕ) → CommandLine
   -- how it hears
   Listen : ListenOptions → CommandLine
   -- the paths of its feeds, in order, the number of cycles, the first packet that its monitor hears, and the services of its views, in order
@@ -178,11 +193,38 @@ flagged_path flag name words = let first = flag_front flag words in option_and_t
 abbrev pub audit_of : List (List ℕ) → Option CommandLine
 audit_of words = option_map (λ r. Audit r.1 r.0) (flagged_path (codes "--nulls") (codes "--air") words)
 
--- `--fold` and `--resume` with a path, each at most once
+-- whether a word is an option of `play` without a value
+abbrev pub is_play_flag : List ℕ → Bool
+is_play_flag word = bytes_eq word (codes "--fold") || (bytes_eq word (codes "--follow") || bytes_eq word (codes "--keep-going"))
+
+-- the words from the first on that is none of these
+abbrev pub after_flags : List (List ℕ) → List (List ℕ)
+after_flags [] = []
+after_flags (word ∷ words) = if is_play_flag word then after_flags words else word ∷ words
+
+-- these options by how often each stands: `--fold` or `--follow`, at most once, and `--keep-going` at most as often as `--follow`
+abbrev pub play_with : ℕ → ℕ → ℕ → Option PlayOptions
+play_with fold follow keep_going =
+    if nat_le (fold + follow) 1 && nat_le keep_going follow
+    then Some (record { fold = fold == 1; follow = follow == 1; keep_going = keep_going == 1 })
+    else None
+
+abbrev pub play_options : List (List ℕ) → Option PlayOptions
+play_options words = play_with (times (codes "--fold") words) (times (codes "--follow") words) (times (codes "--keep-going") words)
+
+-- a path with no other word after it
+abbrev pub path_before_flags : List ℕ × List (List ℕ) → Option (Option (List ℕ))
+path_before_flags (path, after) = if is_none (after_flags after) then Some (Some path) else None
+
+-- the path of `--resume`, where it stands: no other word is before it or after it
+abbrev pub resume_of : List (List ℕ) → Option (Option (List ℕ))
+resume_of words =
+    let named = after_flags words in
+    if is_none named then Some None else option_and_then path_before_flags (path_front (codes "--resume") named)
+
+-- `--fold`, or `--follow` with `--keep-going` or without, and `--resume` with a path, each at most once, in any order
 abbrev pub play_of : List (List ℕ) → Option CommandLine
-play_of words =
-    let first = flag_front (codes "--fold") words in
-    if is_none first.1 then Some (Play first.0 None) else option_map (λ r. Play r.0 (Some r.1)) (flagged_path (codes "--fold") (codes "--resume") words)
+play_of words = option_and_then (λ options. option_map (Play options) (resume_of words)) (play_options words)
 
 -- the command that words spell
 abbrev pub command_of : List (List ℕ) → Option CommandLine

@@ -36,7 +36,7 @@ values_or_none (Some values) = values
 
 -- the values that were found are those of this `live`
 abbrev pub Say : Found → CommandLine → Type 0
-Say found (Play fold resume) = ⊥
+Say found (Play options resume) = ⊥
 Say found (Listen options) = ⊥
 Say found (Soak number) = ⊥
 Say found (Audit path nulls) = ⊥

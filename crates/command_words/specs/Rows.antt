@@ -1,25 +1,56 @@
 -- Worked rows of the definitions.
 use Rattle.std.specs.Prelude.{◌≡◌, [], ◌∷◌, Some, None, true, false, codes, refl}
-use Rattle.command_words.specs.Grammar.{command_of, Play, Listen, Live, Soak, Audit}
+use Rattle.command_words.specs.Grammar.{command_of, played, followed, Play, Listen, Live, Soak, Audit}
 
 two_feeds : command_of (codes "live" ∷ codes "--join=0" ∷ codes "--feed" ∷ codes "a" ∷ codes "--cycles" ∷ codes "3" ∷ codes "--feed=b" ∷ []) ≡ Some (Live (codes "a" ∷ codes "b" ∷ []) 3 0 [])
 two_feeds = refl
 
-one_word : command_of (codes "play" ∷ []) ≡ Some (Play false None)
+one_word : command_of (codes "play" ∷ []) ≡ Some (Play (played false) None)
 one_word = refl
 
 -- the options of `play`, in any order
-play_fold : command_of (codes "play" ∷ codes "--fold" ∷ []) ≡ Some (Play true None)
+play_fold : command_of (codes "play" ∷ codes "--fold" ∷ []) ≡ Some (Play (played true) None)
 play_fold = refl
 
-play_resume : command_of (codes "play" ∷ codes "--resume" ∷ codes "night.cp" ∷ []) ≡ Some (Play false (Some (codes "night.cp")))
+play_resume : command_of (codes "play" ∷ codes "--resume" ∷ codes "night.cp" ∷ []) ≡ Some (Play (played false) (Some (codes "night.cp")))
 play_resume = refl
 
-play_both : command_of (codes "play" ∷ codes "--fold" ∷ codes "--resume=--fold" ∷ []) ≡ Some (Play true (Some (codes "--fold")))
+play_both : command_of (codes "play" ∷ codes "--fold" ∷ codes "--resume=--fold" ∷ []) ≡ Some (Play (played true) (Some (codes "--fold")))
 play_both = refl
 
-play_both_again : command_of (codes "play" ∷ codes "--resume" ∷ codes "a=b" ∷ codes "--fold" ∷ []) ≡ Some (Play true (Some (codes "a=b")))
+play_both_again : command_of (codes "play" ∷ codes "--resume" ∷ codes "a=b" ∷ codes "--fold" ∷ []) ≡ Some (Play (played true) (Some (codes "a=b")))
 play_both_again = refl
+
+play_follow : command_of (codes "play" ∷ codes "--follow" ∷ []) ≡ Some (Play (followed false) None)
+play_follow = refl
+
+play_keep_going : command_of (codes "play" ∷ codes "--follow" ∷ codes "--keep-going" ∷ []) ≡ Some (Play (followed true) None)
+play_keep_going = refl
+
+play_keep_going_first : command_of (codes "play" ∷ codes "--keep-going" ∷ codes "--follow" ∷ []) ≡ Some (Play (followed true) None)
+play_keep_going_first = refl
+
+play_follow_resume : command_of (codes "play" ∷ codes "--follow" ∷ codes "--resume" ∷ codes "night.cp" ∷ []) ≡ Some (Play (followed false) (Some (codes "night.cp")))
+play_follow_resume = refl
+
+play_resume_between : command_of (codes "play" ∷ codes "--keep-going" ∷ codes "--resume=--fold" ∷ codes "--follow" ∷ []) ≡ Some (Play (followed true) (Some (codes "--fold")))
+play_resume_between = refl
+
+play_resume_first : command_of (codes "play" ∷ codes "--resume" ∷ codes "a" ∷ codes "--keep-going" ∷ codes "--follow" ∷ []) ≡ Some (Play (followed true) (Some (codes "a")))
+play_resume_first = refl
+
+-- `--follow` with `--fold`, and `--keep-going` without `--follow`
+play_fold_follow : command_of (codes "play" ∷ codes "--fold" ∷ codes "--follow" ∷ []) ≡ None
+play_fold_follow = refl
+
+play_follow_fold : command_of (codes "play" ∷ codes "--follow" ∷ codes "--resume=a" ∷ codes "--fold" ∷ []) ≡ None
+play_follow_fold = refl
+
+play_only_keep_going : command_of (codes "play" ∷ codes "--keep-going" ∷ []) ≡ None
+play_only_keep_going = refl
+
+play_fold_keep_going : command_of (codes "play" ∷ codes "--fold" ∷ codes "--keep-going" ∷ []) ≡ None
+play_fold_keep_going = refl
 
 -- an option twice, a path that is none, a value of `--fold`
 play_fold_twice : command_of (codes "play" ∷ codes "--fold" ∷ codes "--resume=a" ∷ codes "--fold" ∷ []) ≡ None
@@ -28,11 +59,21 @@ play_fold_twice = refl
 play_folds : command_of (codes "play" ∷ codes "--fold" ∷ codes "--fold" ∷ []) ≡ None
 play_folds = refl
 
+play_follows : command_of (codes "play" ∷ codes "--follow" ∷ codes "--follow" ∷ []) ≡ None
+play_follows = refl
+
+play_keeps_going : command_of (codes "play" ∷ codes "--keep-going" ∷ codes "--follow" ∷ codes "--keep-going" ∷ []) ≡ None
+play_keeps_going = refl
+
 play_resumes : command_of (codes "play" ∷ codes "--resume=a" ∷ codes "--resume=a" ∷ []) ≡ None
 play_resumes = refl
 
 play_without_path : command_of (codes "play" ∷ codes "--resume" ∷ codes "--fold" ∷ []) ≡ None
 play_without_path = refl
+
+-- the path is the word after `--resume`
+play_path_apart : command_of (codes "play" ∷ codes "--resume" ∷ codes "--follow" ∷ codes "a" ∷ []) ≡ None
+play_path_apart = refl
 
 play_from_nothing : command_of (codes "play" ∷ codes "--resume=" ∷ []) ≡ None
 play_from_nothing = refl

@@ -1,7 +1,9 @@
 // The options of `listen`.
 ghost use Rattle.std.specs.Prelude.{◌≡◌, option_map};
 ghost use Rattle.command_words.specs.Commands.{said_listen, texts};
-ghost use Rattle.command_words.specs.Grammar.{listen_of, times};
+ghost use Rattle.command_words.specs.Grammar.{listen_of};
+
+use crate::front::times;
 
 /// How `listen` hears a recording: whether its guide shows also what it holds of tables that are not whole, whether it seeks the sync byte
 /// again where a recording is damaged, and whether it notices losses.
@@ -27,12 +29,4 @@ pub(crate) fn listen_words(words: &[String]) -> Option<ListenWords>
         resync: resync == 1,
         strict: strict == 1,
     })
-}
-
-// How often a word stands among these.
-#[tactic(auto, using(crate::proofs::Counting::count_texts))]
-fn times(words: &[String], name: &str) -> usize
-    ensures { result ≡ times name.now (texts words.now) }
-{
-    words.iter().filter(|word| word.as_str() == name).count()
 }

@@ -1,11 +1,11 @@
 -- The command that the words of a run spell, and the statuses that a command has not.
-use Rattle.std.proofs.Common.{◌≡◌, ℕ, Bool, true, false, List, refl, subst, inl, inr, ◌⊎◌}
+use Rattle.std.proofs.Common.{◌≡◌, ℕ, Bool, List, refl, subst, inl, inr, ◌⊎◌}
 use Rattle.std.specs.Prelude.{Option, Some, None, Result, Err}
 use Rattle.headend_live.specs.declared.watched.LivePlan.{LivePlan}
 use Rattle.si_causes.specs.Causes.{Rose}
 use Rattle.command_words.specs.declared.command.WordsStop.{WordsStop}
 use Rattle.command_words.specs.declared.command.WordsStop.TheVariants as words
-use Rattle.command_words.specs.Grammar.{CommandLine, ListenOptions, Play, Listen, Live, Soak, Audit}
+use Rattle.command_words.specs.Grammar.{CommandLine, ListenOptions, PlayOptions, Play, Listen, Live, Soak, Audit}
 use Rattle.epg_report.specs.declared.status.Status.{Status}
 use Rattle.epg_report.specs.declared.status.Status.TheVariants.{Usage, OpenFault, ReadFault, WriteFault, Memory}
 use Rattle.epg_report.specs.declared.status.Origin.TheVariants.{Input, Feed, Recording}
@@ -19,11 +19,11 @@ use Rattle.epg_audit.specs.Leaves.{IsOfAudit}
 
 -- ---- words spell one command
 
-pub play_listen : (c : Option CommandLine) (fold : Bool) (resume : Option (List ℕ)) (how : ListenOptions) → c ≡ Some (Play fold resume) → c ≡ Some (Listen how) → ⊥
-play_listen c fold resume how e f = cc
+pub play_listen : (c : Option CommandLine) (options : PlayOptions) (resume : Option (List ℕ)) (how : ListenOptions) → c ≡ Some (Play options resume) → c ≡ Some (Listen how) → ⊥
+play_listen c options resume how e f = cc
 
-pub play_live : (c : Option CommandLine) (fold : Bool) (resume : Option (List ℕ)) (paths : List (List ℕ)) (plan : LivePlan) → c ≡ Some (Play fold resume) → c ≡ Some (Live paths plan.cycles plan.join plan.views) → ⊥
-play_live c fold resume paths plan e f = cc
+pub play_live : (c : Option CommandLine) (options : PlayOptions) (resume : Option (List ℕ)) (paths : List (List ℕ)) (plan : LivePlan) → c ≡ Some (Play options resume) → c ≡ Some (Live paths plan.cycles plan.join plan.views) → ⊥
+play_live c options resume paths plan e f = cc
 
 pub listen_live : (c : Option CommandLine) (how : ListenOptions) (paths : List (List ℕ)) (plan : LivePlan) → c ≡ Some (Listen how) → c ≡ Some (Live paths plan.cycles plan.join plan.views) → ⊥
 listen_live c how paths plan e f = cc
@@ -31,8 +31,8 @@ listen_live c how paths plan e f = cc
 pub some_none : (c : Option CommandLine) (k : CommandLine) → c ≡ Some k → c ≡ None → ⊥
 some_none c k e f = cc
 
-pub play_soak : (c : Option CommandLine) (fold : Bool) (resume : Option (List ℕ)) (number : ℕ) → c ≡ Some (Play fold resume) → c ≡ Some (Soak number) → ⊥
-play_soak c fold resume number e f = cc
+pub play_soak : (c : Option CommandLine) (options : PlayOptions) (resume : Option (List ℕ)) (number : ℕ) → c ≡ Some (Play options resume) → c ≡ Some (Soak number) → ⊥
+play_soak c options resume number e f = cc
 
 pub listen_soak : (c : Option CommandLine) (how : ListenOptions) (number : ℕ) → c ≡ Some (Listen how) → c ≡ Some (Soak number) → ⊥
 listen_soak c how number e f = cc
@@ -40,8 +40,8 @@ listen_soak c how number e f = cc
 pub live_soak : (c : Option CommandLine) (paths : List (List ℕ)) (plan : LivePlan) (number : ℕ) → c ≡ Some (Live paths plan.cycles plan.join plan.views) → c ≡ Some (Soak number) → ⊥
 live_soak c paths plan number e f = cc
 
-pub play_audit : (c : Option CommandLine) (fold : Bool) (resume : Option (List ℕ)) (path : List ℕ) (nulls : Bool) → c ≡ Some (Play fold resume) → c ≡ Some (Audit path nulls) → ⊥
-play_audit c fold resume path nulls e f = cc
+pub play_audit : (c : Option CommandLine) (options : PlayOptions) (resume : Option (List ℕ)) (path : List ℕ) (nulls : Bool) → c ≡ Some (Play options resume) → c ≡ Some (Audit path nulls) → ⊥
+play_audit c options resume path nulls e f = cc
 
 pub listen_audit : (c : Option CommandLine) (how : ListenOptions) (path : List ℕ) (nulls : Bool) → c ≡ Some (Listen how) → c ≡ Some (Audit path nulls) → ⊥
 listen_audit c how path nulls e f = cc
@@ -53,9 +53,9 @@ pub soak_audit : (c : Option CommandLine) (number : ℕ) (path : List ℕ) (null
 soak_audit c number path nulls e f = cc
 
 -- neither `listen` nor `audit`
-pub play_sends : (c : Option CommandLine) (fold : Bool) (resume : Option (List ℕ)) → c ≡ Some (Play fold resume) → ((how : ListenOptions) × (c ≡ Some (Listen how))) ⊎ ((path : List ℕ) × (nulls : Bool) × (c ≡ Some (Audit path nulls))) → ⊥
-play_sends c fold resume e (inl (how, listen)) = play_listen c fold resume how e listen
-play_sends c fold resume e (inr (path, nulls, audit)) = play_audit c fold resume path nulls e audit
+pub play_sends : (c : Option CommandLine) (options : PlayOptions) (resume : Option (List ℕ)) → c ≡ Some (Play options resume) → ((how : ListenOptions) × (c ≡ Some (Listen how))) ⊎ ((path : List ℕ) × (nulls : Bool) × (c ≡ Some (Audit path nulls))) → ⊥
+play_sends c options resume e (inl (how, listen)) = play_listen c options resume how e listen
+play_sends c options resume e (inr (path, nulls, audit)) = play_audit c options resume path nulls e audit
 
 pub live_sends : (c : Option CommandLine) (paths : List (List ℕ)) (plan : LivePlan) → c ≡ Some (Live paths plan.cycles plan.join plan.views) → ((how : ListenOptions) × (c ≡ Some (Listen how))) ⊎ ((path : List ℕ) × (nulls : Bool) × (c ≡ Some (Audit path nulls))) → ⊥
 live_sends c paths plan e (inl (how, listen)) = listen_live c how paths plan listen e
@@ -70,11 +70,10 @@ none_sends c none (inl (how, listen)) = some_none c (Listen how) listen none
 none_sends c none (inr (path, nulls, audit)) = some_none c (Audit path nulls) audit none
 
 -- none of those that open no file
-pub audit_others : (c : Option CommandLine) (path : List ℕ) (nulls : Bool) → c ≡ Some (Audit path nulls) → (c ≡ Some (Play false None)) ⊎ ((c ≡ Some (Play true None)) ⊎ (((how : ListenOptions) × (c ≡ Some (Listen how))) ⊎ ((number : ℕ) × (c ≡ Some (Soak number))))) → ⊥
-audit_others c path nulls e (inl play) = play_audit c false None path nulls play e
-audit_others c path nulls e (inr (inl fold)) = play_audit c true None path nulls fold e
-audit_others c path nulls e (inr (inr (inl (how, listen)))) = listen_audit c how path nulls listen e
-audit_others c path nulls e (inr (inr (inr (number, soak)))) = soak_audit c number path nulls soak e
+pub audit_others : (c : Option CommandLine) (path : List ℕ) (nulls : Bool) → c ≡ Some (Audit path nulls) → ((options : PlayOptions) × (c ≡ Some (Play options None))) ⊎ (((how : ListenOptions) × (c ≡ Some (Listen how))) ⊎ ((number : ℕ) × (c ≡ Some (Soak number)))) → ⊥
+audit_others c path nulls e (inl (options, play)) = play_audit c options None path nulls play e
+audit_others c path nulls e (inr (inl (how, listen))) = listen_audit c how path nulls listen e
+audit_others c path nulls e (inr (inr (number, soak))) = soak_audit c number path nulls soak e
 
 pub audit_is : (P : List ℕ → Bool → Type 0) (c : Option CommandLine) (read path : List ℕ) (said nulls : Bool) → c ≡ Some (Audit read said) → c ≡ Some (Audit path nulls) → P read said → P path nulls
 audit_is P c read path said nulls e f p =
@@ -83,23 +82,21 @@ audit_is P c read path said nulls e f p =
     subst (P path) second (subst (λ (l : List ℕ). P l said) first p)
 
 pub live_others : (c : Option CommandLine) (paths : List (List ℕ)) (plan : LivePlan) → c ≡ Some (Live paths plan.cycles plan.join plan.views)
-    → (c ≡ Some (Play false None)) ⊎ ((c ≡ Some (Play true None)) ⊎ (((how : ListenOptions) × (c ≡ Some (Listen how))) ⊎ ((number : ℕ) × (c ≡ Some (Soak number))))) → ⊥
-live_others c paths plan e (inl play) = play_live c false None paths plan play e
-live_others c paths plan e (inr (inl fold)) = play_live c true None paths plan fold e
-live_others c paths plan e (inr (inr (inl (how, listen)))) = listen_live c how paths plan listen e
-live_others c paths plan e (inr (inr (inr (number, soak)))) = live_soak c paths plan number e soak
+    → ((options : PlayOptions) × (c ≡ Some (Play options None))) ⊎ (((how : ListenOptions) × (c ≡ Some (Listen how))) ⊎ ((number : ℕ) × (c ≡ Some (Soak number)))) → ⊥
+live_others c paths plan e (inl (options, play)) = play_live c options None paths plan play e
+live_others c paths plan e (inr (inl (how, listen))) = listen_live c how paths plan listen e
+live_others c paths plan e (inr (inr (number, soak))) = live_soak c paths plan number e soak
 
 -- the words that were read are those that were spelled
 pub play_is : (c : Option CommandLine) (read line : CommandLine) → c ≡ Some read → c ≡ Some line → read ≡ line
 play_is c read line e f = cc
 
--- the opener is asked where a checkpoint is gone on from alone
-pub play_opens : (P : Type 0) (c : Option CommandLine) (fold : Bool) (resume : Option (List ℕ)) → c ≡ Some (Play fold resume) → ((f : Bool) → Play fold resume ≡ Play f None → P)
-    → (c ≡ Some (Play false None)) ⊎ ((c ≡ Some (Play true None)) ⊎ (((how : ListenOptions) × (c ≡ Some (Listen how))) ⊎ ((number : ℕ) × (c ≡ Some (Soak number))))) → P
-play_opens P c fold resume e kept (inl play) = kept false (play_is c (Play fold resume) (Play false None) e play)
-play_opens P c fold resume e kept (inr (inl folds)) = kept true (play_is c (Play fold resume) (Play true None) e folds)
-play_opens P c fold resume e kept (inr (inr (inl (how, listen)))) = absurd (play_listen c fold resume how e listen)
-play_opens P c fold resume e kept (inr (inr (inr (number, soak)))) = absurd (play_soak c fold resume number e soak)
+-- the opener is asked only where a run goes on from a checkpoint
+pub play_opens : (P : Type 0) (c : Option CommandLine) (options : PlayOptions) (resume : Option (List ℕ)) → c ≡ Some (Play options resume) → ((o : PlayOptions) → Play options resume ≡ Play o None → P)
+    → ((options : PlayOptions) × (c ≡ Some (Play options None))) ⊎ (((how : ListenOptions) × (c ≡ Some (Listen how))) ⊎ ((number : ℕ) × (c ≡ Some (Soak number)))) → P
+play_opens P c options resume e kept (inl (o, play)) = kept o (play_is c (Play options resume) (Play o None) e play)
+play_opens P c options resume e kept (inr (inl (how, listen))) = absurd (play_listen c options resume how e listen)
+play_opens P c options resume e kept (inr (inr (number, soak))) = absurd (play_soak c options resume number e soak)
 
 -- what holds of the words that were read holds of those that were spelled
 pub live_is : (P : List (List ℕ) → LivePlan → Type 0) (c : Option CommandLine) (read paths : List (List ℕ)) (said plan : LivePlan) → c ≡ Some (Live read said.cycles said.join said.views) → c ≡ Some (Live paths plan.cycles plan.join plan.views) → P read said → P paths plan

@@ -2,22 +2,34 @@
 use Rattle.headend_live.specs.declared.watched.LivePlan.{LivePlan}
 use Rattle.std.specs.Prelude.{◌≡◌, ℕ, Bool, true, false, List, None, Some, String}
 use Rattle.command_words.specs.Commands.{texts}
-use Rattle.command_words.specs.Grammar.{ListenOptions, Audit, Listen, Live, Play, Soak, command_of}
+use Rattle.command_words.specs.Grammar.{ListenOptions, PlayOptions, Audit, Listen, Live, Play, Soak, command_of, followed, played}
 
 abbrev pub IsUsage : {Y : Type 0} → List (String Y) → Type 0
 IsUsage words = command_of (texts words) ≡ None
 
--- `play` with neither option
+-- `play` with no option
 abbrev pub IsPlay : {Y : Type 0} → List (String Y) → Type 0
-IsPlay words = command_of (texts words) ≡ Some (Play false None)
+IsPlay words = command_of (texts words) ≡ Some (Play (played false) None)
 
--- with `--fold` alone
+-- with `--fold` and no other option
 abbrev pub IsFold : {Y : Type 0} → List (String Y) → Type 0
-IsFold words = command_of (texts words) ≡ Some (Play true None)
+IsFold words = command_of (texts words) ≡ Some (Play (played true) None)
 
 -- from the checkpoint at this path, with `--fold` or without
 abbrev pub IsResume : {Y : Type 0} → List (String Y) → List ℕ → Bool → Type 0
-IsResume words path fold = command_of (texts words) ≡ Some (Play fold (Some path))
+IsResume words path fold = command_of (texts words) ≡ Some (Play (played fold) (Some path))
+
+-- with `--follow`, and with `--keep-going` or without
+abbrev pub IsFollow : {Y : Type 0} → List (String Y) → Bool → Type 0
+IsFollow words keep = command_of (texts words) ≡ Some (Play (followed keep) None)
+
+-- the same from the checkpoint at this path
+abbrev pub IsFollowResume : {Y : Type 0} → List (String Y) → List ℕ → Bool → Type 0
+IsFollowResume words path keep = command_of (texts words) ≡ Some (Play (followed keep) (Some path))
+
+-- `play` from no checkpoint, whatever its other options
+abbrev pub SpellsFreshPlay : {Y : Type 0} → List (String Y) → Type 0
+SpellsFreshPlay words = (options : PlayOptions) × (command_of (texts words) ≡ Some (Play options None))
 
 -- `listen`, which hears so
 abbrev pub IsListen : {Y : Type 0} → List (String Y) → ListenOptions → Type 0

@@ -5,9 +5,10 @@ ghost use Rattle.si_causes.specs.Causes.{Rose};
 ghost use Rattle.epg_report.specs.Texts.{fault_line};
 ghost use Rattle.epg_report.specs.Told.{Reported, asked, gave, told};
 ghost use Rattle.command_words.specs.Commands.{said_play};
-ghost use Rattle.command_words.specs.Grammar.{ListenOptions, Play};
+ghost use Rattle.command_words.specs.Grammar.{ListenOptions, PlayOptions, Play, followed, played};
 ghost use Rattle.epg_play.specs.Leaves.{PlayRan};
 ghost use Rattle.epg_play.specs.CheckpointRuns.{FoldRan, ResumeRan};
+ghost use Rattle.epg_follow.specs.Runs.{FollowRan, FollowResumeRan};
 ghost use Rattle.epg_listen.specs.Leaves.{ListenRan};
 ghost use Rattle.epg_live.specs.LiveRun.{LiveRan};
 ghost use Rattle.epg_live.specs.Stops.{HasStatusCause};
@@ -15,10 +16,11 @@ ghost use Rattle.epg_soak.specs.SoakRun.{SoakRan};
 ghost use Rattle.epg_audit.specs.Leaves.{AuditRan};
 ghost use Rattle.headend_live.specs.declared.watched.LivePlan.{LivePlan};
 ghost use Rattle.epg_cli.specs.Plays.{PlayEnds};
-ghost use Rattle.epg_cli.specs.Spelled.{IsUsage, IsPlay, IsFold, IsResume, IsListen, SpellsListen, IsLive, IsSoak, IsAudit, SpellsAudit, SpellsSoak};
+ghost use Rattle.epg_cli.specs.Spelled.{IsUsage, IsPlay, IsFold, IsResume, IsFollow, IsFollowResume, SpellsFreshPlay, IsListen, SpellsListen, IsLive, IsSoak, IsAudit, SpellsAudit, SpellsSoak};
 
 use command_words::{Command, PlayWords, WordsStop, parse_words};
 use epg_audit::run_audit;
+use epg_follow::{run_follow_resumed, run_followed};
 use epg_listen::run_listen_as;
 use epg_live::run_live_files;
 use epg_play::{run_folded, run_play, run_resumed};
@@ -39,30 +41,41 @@ fn run_play_words<O: Opener, S: Source, A: Sink, R: Sink>(
     air: &mut A,
     report: &mut R,
 ) -> Status
-    ensures plain { said_play play.now ≡ Play false None → PlayRan S.left S.faults input.old input.new
+    ensures plain { said_play play.now ≡ Play (played false) None
+        → PlayRan S.left S.faults input.old input.new
         A.written A.faults air.old air.new R.written R.faults report.old report.new result }
-    ensures fold { said_play play.now ≡ Play true None → FoldRan S.left S.faults input.old input.new
+    ensures fold { said_play play.now ≡ Play (played true) None
+        → FoldRan S.left S.faults input.old input.new
         A.written A.faults air.old air.new R.written R.faults report.old report.new result }
-    ensures resume { (path : List ℕ) (fold : Bool) → said_play play.now ≡ Play fold (Some path)
+    ensures resume { (path : List ℕ) (fold : Bool)
+        → said_play play.now ≡ Play (played fold) (Some path)
         → ResumeRan path fold O.files O.tried O.faults O.read_faults opener.old opener.new
         S.left S.faults input.old input.new
         A.written A.faults air.old air.new R.written R.faults report.old report.new result }
-    ensures opener_kept { (fold : Bool) → said_play play.now ≡ Play fold None
+    ensures follow { (keep : Bool) → said_play play.now ≡ Play (followed keep) None
+        → FollowRan keep S.left S.faults input.old input.new
+        A.written A.faults air.old air.new R.written R.faults report.old report.new result }
+    ensures follow_resume { (path : List ℕ) (keep : Bool)
+        → said_play play.now ≡ Play (followed keep) (Some path)
+        → FollowResumeRan path keep O.files O.tried O.faults O.read_faults opener.old opener.new
+        S.left S.faults input.old input.new
+        A.written A.faults air.old air.new R.written R.faults report.old report.new result }
+    ensures opener_kept { (options : PlayOptions) → said_play play.now ≡ Play options None
         → opener.new ≡ opener.old }
     ensures ends { PlayEnds
         (asked O.files O.tried O.faults O.read_faults opener.old opener.new)
         (gave S.left S.faults input.old input.new) (told A.written A.faults air.old air.new)
         (told R.written R.faults report.old report.new) result }
 {
+    let keep = play.keep_going;
     match &play.resume {
-        Some(path) => run_resumed(alloc, path.as_str(), play.fold, opener, input, air, report),
-        None => {
-            if play.fold {
-                run_folded(alloc, input, air, report)
-            } else {
-                run_play(alloc, input, air, report)
-            }
+        Some(path) if play.follow => {
+            run_follow_resumed(alloc, path.as_str(), keep, opener, input, air, report)
         }
+        Some(path) => run_resumed(alloc, path.as_str(), play.fold, opener, input, air, report),
+        None if play.follow => run_followed(alloc, keep, input, air, report),
+        None if play.fold => run_folded(alloc, input, air, report),
+        None => run_play(alloc, input, air, report),
     }
 }
 
@@ -93,6 +106,13 @@ pub fn run<W: Threads + Wait + Sync, O: Opener, S: Source + Send, A: Sink + Send
         → ResumeRan path fold O.files O.tried O.faults O.read_faults opener.old opener.new
         S.left S.faults input.old input.new
         A.written A.faults air.old air.new R.written R.faults report.old report.new result }
+    ensures follow { (keep : Bool) → IsFollow words.now keep
+        → FollowRan keep S.left S.faults input.old input.new
+        A.written A.faults air.old air.new R.written R.faults report.old report.new result }
+    ensures follow_resume { (path : List ℕ) (keep : Bool) → IsFollowResume words.now path keep
+        → FollowResumeRan path keep O.files O.tried O.faults O.read_faults opener.old opener.new
+        S.left S.faults input.old input.new
+        A.written A.faults air.old air.new R.written R.faults report.old report.new result }
     ensures listen { (how : ListenOptions) → IsListen words.now how
         → ListenRan how S.left S.faults input.old input.new
         R.written R.faults report.old report.new result }
@@ -109,8 +129,8 @@ pub fn run<W: Threads + Wait + Sync, O: Opener, S: Source + Send, A: Sink + Send
     // With `listen` and `audit` nothing is sent, only `live`, `audit` and `play --resume` open files, and `soak` makes
     // its input itself.
     ensures air_kept { SpellsListen words.now ⊎ SpellsAudit words.now → air.new ≡ air.old }
-    ensures opener_kept { IsPlay words.now ⊎ (IsFold words.now
-        ⊎ (SpellsListen words.now ⊎ SpellsSoak words.now)) → opener.new ≡ opener.old }
+    ensures opener_kept { SpellsFreshPlay words.now
+        ⊎ (SpellsListen words.now ⊎ SpellsSoak words.now) → opener.new ≡ opener.old }
     ensures input_kept { SpellsSoak words.now → input.new ≡ input.old }
     // With Done the input was read to its end, but with `soak`; each fault has its cause.
     ensures end { result ≡ Status.Done → SpellsSoak words.now ⊎ IsAtEnd (S.left input.new) }

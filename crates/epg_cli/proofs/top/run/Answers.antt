@@ -1,8 +1,8 @@
 use Rattle.std.proofs.Common.{◌≡◌, refl, true, false, [], List, ℕ, subst, codes, inl, inr}
 use Rattle.std.specs.Prelude.{Some, None, option_map, string_bytes}
-use Rattle.command_words.specs.Commands.{options_said, texts}
+use Rattle.command_words.specs.Commands.{options_said, play_options_said, texts}
 use Rattle.epg_live.specs.Views.{plan_of}
-use Rattle.command_words.specs.Grammar.{command_of, Play, Listen, Live, Soak, Audit}
+use Rattle.command_words.specs.Grammar.{command_of, followed, played, Play, Listen, Live, Soak, Audit}
 use Rattle.epg_report.specs.Texts.{fault_line}
 use Rattle.epg_report.specs.Told.{asked, gave, told}
 use Rattle.epg_report.proofs.Reporting.{reported}
@@ -17,6 +17,7 @@ use Rattle.epg_soak.proofs.SoakFacts.{soak_memory}
 use Rattle.epg_audit.specs.Leaves.{AuditRun}
 use Rattle.epg_audit.proofs.AuditRuns.{audit_memory}
 use Rattle.epg_play.proofs.CourseRuns.{fold_memory, resume_memory}
+use Rattle.epg_follow.proofs.FollowRuns.{follow_memory, follow_resume_memory}
 use Rattle.epg_cli.proofs.CommandFacts.{play_audit, listen_audit, live_audit, soak_audit, play_sends, live_sends, soak_sends, none_sends, audit_others, audit_is, audit_usage, audit_cause, audit_open, play_listen, play_live, listen_live, play_soak, listen_soak, live_soak, live_others, some_none, live_is, soak_is, listen_usage, live_usage, soak_usage, listen_open, soak_open, listen_cause, soak_cause, memory_usage, memory_read, play_is, play_opens, listen_is}
 use Rattle.epg_cli.proofs.top.run.Goals as goal
 
@@ -24,22 +25,25 @@ pub returns-in-Ok-Play : goal.returns-in-Ok-Play
 returns-in-Ok-Play g c =
     let command = command_of (texts c.args.words.now) in
     let words = c.in-Ok-Play.play in
+    let options = play_options_said words in
     let resume = option_map string_bytes words.resume in
-    let spells : command ≡ Some (Play words.fold resume) = rw c.in-Ok-Play.field-0-is at c.in-Ok-Play.ensures.command in
+    let spells : command ≡ Some (Play options resume) = rw c.in-Ok-Play.field-0-is at c.in-Ok-Play.ensures.command in
     let run = c.run_play_words.ensures in
     record {
-      usage = (λ e. absurd (run.ends.no_usage e), λ none. absurd (some_none command (Play words.fold resume) spells none));
+      usage = (λ e. absurd (run.ends.no_usage e), λ none. absurd (some_none command (Play options resume) spells none));
       usage_leaves = λ e. absurd (run.ends.no_usage e);
-      play = λ spelled. run.plain (play_is command (Play words.fold resume) (Play false None) spells spelled);
-      fold = λ spelled. run.fold (play_is command (Play words.fold resume) (Play true None) spells spelled);
-      resume = λ path fold spelled. run.resume path fold (play_is command (Play words.fold resume) (Play fold (Some path)) spells spelled);
-      listen = λ how spelled. absurd (play_listen command words.fold resume how spells spelled);
-      live = λ paths plan spelled. absurd (play_live command words.fold resume paths plan spells spelled);
-      soak = λ number spelled. absurd (play_soak command words.fold resume number spells spelled);
-      audit = λ path nulls spelled. absurd (play_audit command words.fold resume path nulls spells spelled);
-      air_kept = λ spelled. absurd (play_sends command words.fold resume spells spelled);
-      opener_kept = λ spelled. play_opens _ command words.fold resume spells run.opener_kept spelled;
-      input_kept = λ spelled. absurd (play_soak command words.fold resume spelled.0 spells spelled.1);
+      play = λ spelled. run.plain (play_is command (Play options resume) (Play (played false) None) spells spelled);
+      fold = λ spelled. run.fold (play_is command (Play options resume) (Play (played true) None) spells spelled);
+      resume = λ path fold spelled. run.resume path fold (play_is command (Play options resume) (Play (played fold) (Some path)) spells spelled);
+      follow = λ keep spelled. run.follow keep (play_is command (Play options resume) (Play (followed keep) None) spells spelled);
+      follow_resume = λ path keep spelled. run.follow_resume path keep (play_is command (Play options resume) (Play (followed keep) (Some path)) spells spelled);
+      listen = λ how spelled. absurd (play_listen command options resume how spells spelled);
+      live = λ paths plan spelled. absurd (play_live command options resume paths plan spells spelled);
+      soak = λ number spelled. absurd (play_soak command options resume number spells spelled);
+      audit = λ path nulls spelled. absurd (play_audit command options resume path nulls spells spelled);
+      air_kept = λ spelled. absurd (play_sends command options resume spells spelled);
+      opener_kept = λ spelled. play_opens _ command options resume spells run.opener_kept spelled;
+      input_kept = λ spelled. absurd (play_soak command options resume spelled.0 spells spelled.1);
       end = λ done. inr (run.ends.end done);
       cause = run.ends.cause;
       open_cause = run.ends.open_cause;
@@ -57,9 +61,11 @@ returns-in-Ok-Listen g c =
     record {
       usage = (λ e. absurd (listen_usage c.run_listen_as.result run.known e), λ none. absurd (some_none command (Listen read) spells none));
       usage_leaves = λ e. absurd (listen_usage c.run_listen_as.result run.known e);
-      play = λ spelled. absurd (play_listen command false None read spelled spells);
-      fold = λ spelled. absurd (play_listen command true None read spelled spells);
-      resume = λ path fold spelled. absurd (play_listen command fold (Some path) read spelled spells);
+      play = λ spelled. absurd (play_listen command (played false) None read spelled spells);
+      fold = λ spelled. absurd (play_listen command (played true) None read spelled spells);
+      resume = λ path fold spelled. absurd (play_listen command (played fold) (Some path) read spelled spells);
+      follow = λ keep spelled. absurd (play_listen command (followed keep) None read spelled spells);
+      follow_resume = λ path keep spelled. absurd (play_listen command (followed keep) (Some path) read spelled spells);
       listen = λ how spelled. listen_is (λ h. ListenRun h input report c.run_listen_as.result) command read how spells spelled run;
       live = λ paths plan spelled. absurd (listen_live command read paths plan spells spelled);
       soak = λ number spelled. absurd (listen_soak command read number spells spelled);
@@ -88,9 +94,11 @@ returns-in-Ok-Live g c =
     record {
       usage = (λ e. absurd (live_usage c.run_live_files.result run.known e), λ none. absurd (some_none command (Live read words.cycles words.join words.views) spells none));
       usage_leaves = λ e. absurd (live_usage c.run_live_files.result run.known e);
-      play = λ spelled. absurd (play_live command false None read (plan_of words) spelled spells);
-      fold = λ spelled. absurd (play_live command true None read (plan_of words) spelled spells);
-      resume = λ path fold spelled. absurd (play_live command fold (Some path) read (plan_of words) spelled spells);
+      play = λ spelled. absurd (play_live command (played false) None read (plan_of words) spelled spells);
+      fold = λ spelled. absurd (play_live command (played true) None read (plan_of words) spelled spells);
+      resume = λ path fold spelled. absurd (play_live command (played fold) (Some path) read (plan_of words) spelled spells);
+      follow = λ keep spelled. absurd (play_live command (followed keep) None read (plan_of words) spelled spells);
+      follow_resume = λ path keep spelled. absurd (play_live command (followed keep) (Some path) read (plan_of words) spelled spells);
       listen = λ how spelled. absurd (listen_live command how read (plan_of words) spelled spells);
       live = λ paths plan spelled.
           live_is (λ ps p. LiveRun ps p opener input air report c.run_live_files.result) command read paths (plan_of words) plan spells spelled run;
@@ -125,9 +133,11 @@ returns-in-Ok-Soak g c =
     record {
       usage = (λ e. absurd (soak_usage c.run_soak.result run.known e), λ none. absurd (some_none command (Soak read) spells none));
       usage_leaves = λ e. absurd (soak_usage c.run_soak.result run.known e);
-      play = λ spelled. absurd (play_soak command false None read spelled spells);
-      fold = λ spelled. absurd (play_soak command true None read spelled spells);
-      resume = λ path fold spelled. absurd (play_soak command fold (Some path) read spelled spells);
+      play = λ spelled. absurd (play_soak command (played false) None read spelled spells);
+      fold = λ spelled. absurd (play_soak command (played true) None read spelled spells);
+      resume = λ path fold spelled. absurd (play_soak command (played fold) (Some path) read spelled spells);
+      follow = λ keep spelled. absurd (play_soak command (followed keep) None read spelled spells);
+      follow_resume = λ path keep spelled. absurd (play_soak command (followed keep) (Some path) read spelled spells);
       listen = λ how spelled. absurd (listen_soak command how read spelled spells);
       live = λ paths plan spelled. absurd (live_soak command paths plan read spelled spells);
       soak = λ number spelled. soak_is (λ n. SoakRun n air report c.run_soak.result) command read number spells spelled run;
@@ -156,9 +166,11 @@ returns-in-Ok-Audit g c =
     record {
       usage = (λ e. absurd (audit_usage c.run_audit.result run.known e), λ none. absurd (some_none command (Audit read said) spells none));
       usage_leaves = λ e. absurd (audit_usage c.run_audit.result run.known e);
-      play = λ spelled. absurd (play_audit command false None read said spelled spells);
-      fold = λ spelled. absurd (play_audit command true None read said spelled spells);
-      resume = λ path fold spelled. absurd (play_audit command fold (Some path) read said spelled spells);
+      play = λ spelled. absurd (play_audit command (played false) None read said spelled spells);
+      fold = λ spelled. absurd (play_audit command (played true) None read said spelled spells);
+      resume = λ path fold spelled. absurd (play_audit command (played fold) (Some path) read said spelled spells);
+      follow = λ keep spelled. absurd (play_audit command (followed keep) None read said spelled spells);
+      follow_resume = λ path keep spelled. absurd (play_audit command (followed keep) (Some path) read said spelled spells);
       listen = λ how spelled. absurd (listen_audit command how read said spelled spells);
       live = λ paths plan spelled. absurd (live_audit command paths plan read said spelled spells);
       soak = λ number spelled. absurd (soak_audit command number read said spelled spells);
@@ -175,6 +187,7 @@ returns-in-Ok-Audit g c =
 pub returns-in-Err-Memory : goal.returns-in-Err-Memory
 returns-in-Err-Memory g c =
     let is = c.out_of_memory.ensures.status in
+    let took = c.out_of_memory.ensures.took in
     let tried = g.O.Opener.tried c.args.opener.now in
     let opener = asked g.O.Opener.files g.O.Opener.tried g.O.Opener.faults g.O.Opener.read_faults c.args.opener.now c.args.opener.now in
     let input = gave g.S.Source.left g.S.Source.faults c.args.input.now c.args.input.now in
@@ -187,6 +200,8 @@ returns-in-Err-Memory g c =
       play = λ spelled. play_memory input air report c.out_of_memory.result is;
       fold = λ spelled. fold_memory input air report c.out_of_memory.result is;
       resume = λ path fold spelled. resume_memory path fold opener input air report c.out_of_memory.result is refl;
+      follow = λ keep spelled. follow_memory keep input air report c.out_of_memory.result is refl took;
+      follow_resume = λ path keep spelled. follow_resume_memory path keep opener input air report c.out_of_memory.result is refl refl took;
       listen = λ how spelled. listen_memory how input report c.out_of_memory.result is;
       live = λ paths plan spelled. live_memory paths plan opener input air report c.out_of_memory.result is (none_asked paths tried);
       soak = λ number spelled. soak_memory number air report c.out_of_memory.result is;
@@ -212,9 +227,11 @@ returns-in-Err-Usage g c =
         refl,
         reported c.write_all.result (told g.R.Sink.written g.R.Sink.faults c.args.report.now c.write_all.new.sink) (fault_line (codes "usage")) c.write_all.ensures.done c.write_all.ensures.failed c.write_all.ensures.cause.failed,
       );
-      play = λ spelled. absurd (some_none command (Play false None) spelled none);
-      fold = λ spelled. absurd (some_none command (Play true None) spelled none);
-      resume = λ path fold spelled. absurd (some_none command (Play fold (Some path)) spelled none);
+      play = λ spelled. absurd (some_none command (Play (played false) None) spelled none);
+      fold = λ spelled. absurd (some_none command (Play (played true) None) spelled none);
+      resume = λ path fold spelled. absurd (some_none command (Play (played fold) (Some path)) spelled none);
+      follow = λ keep spelled. absurd (some_none command (Play (followed keep) None) spelled none);
+      follow_resume = λ path keep spelled. absurd (some_none command (Play (followed keep) (Some path)) spelled none);
       listen = λ how spelled. absurd (some_none command (Listen how) spelled none);
       live = λ paths plan spelled. absurd (some_none command (Live paths plan.cycles plan.join plan.views) spelled none);
       soak = λ number spelled. absurd (some_none command (Soak number) spelled none);

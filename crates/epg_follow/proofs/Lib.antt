@@ -1,0 +1,15 @@
+pub mod CourseFacts
+pub mod GoingFacts
+pub mod AlikeFacts
+pub mod PieceFacts
+pub mod BehindFacts
+pub mod ItemFacts
+pub mod LineFacts
+pub mod RestFacts
+pub mod EndFacts
+pub mod LongFacts
+pub mod NewRuns
+pub mod ResumedRuns
+pub mod FollowRuns
+pub mod SameAsPlayFacts
+pub mod KeepingFacts

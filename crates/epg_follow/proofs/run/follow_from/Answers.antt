@@ -1,0 +1,27 @@
+use Rattle.std.proofs.Common.{ap, ◌∙◌, refl}
+use Rattle.si_causes.proofs.CauseFacts.{Appends-nothing}
+use Rattle.epg_play.specs.Leaves.{status_for}
+use Rattle.epg_report.specs.Told.{asked, told}
+use Rattle.epg_follow.proofs.NewRuns.{undescribed_run}
+use Rattle.epg_follow.proofs.ResumedRuns.{refused_long, resumed_long}
+use Rattle.epg_follow.proofs.run.follow_from.Goals as goal
+
+pub returns-in-Err-clause-leaves : goal.returns-in-Err-clause-leaves
+returns-in-Err-clause-leaves g c = λ text tells files has.
+    undescribed_run g.S.Source.left g.S.Source.faults g.S.Source.same c.args.lines.now c.read_mux.new.lines text c.in-Err.stop c.status_of.result c.end_idle.result
+    (told g.A.Sink.written g.A.Sink.faults c.args.air.now c.args.air.now) (told g.R.Sink.written g.R.Sink.faults c.args.report.now c.end_idle.new.report) _ _
+    c.requires.unread tells c.in-Err.ensures.read (c.status_of.ensures ∙ ap status_for c.mux_stop_of.ensures) c.end_idle.ensures.ended (λ t took. (refl, (Appends-nothing _, took)))
+
+pub returns-in-Ok-start_at-clause-leaves : goal.returns-in-Ok-start_at-clause-leaves
+returns-in-Ok-start_at-clause-leaves g c = λ text tells files has.
+    resumed_long c.args.keep g.S.Source.left g.S.Source.faults g.S.Source.same c.args.lines.now c.read_mux.new.lines text c.in-Ok.mux c.args.path.now files
+    (asked g.O.Opener.files g.O.Opener.tried g.O.Opener.faults g.O.Opener.read_faults c.args.opener.now c.start_at.new.opener)
+    c.requires.unread tells c.in-Ok.ensures.read c.in-Ok-start_at.ensures.tried c.follow_on.new.lines c.in-Ok-start_at.start _ _ _ _ _ _ _ _ c.follow_on.result c.follow_on.ensures.known
+    (record { begins = c.in-Ok-start_at.ensures.begins files has; is = c.in-Ok-start_at.ensures.start }) c.follow_on.ensures.followed
+
+pub returns-in-Err-start_at-clause-leaves : goal.returns-in-Err-start_at-clause-leaves
+returns-in-Err-start_at-clause-leaves g c = λ text tells files has.
+    refused_long c.args.keep g.S.Source.left g.S.Source.faults g.S.Source.same c.args.lines.now c.read_mux.new.lines text c.in-Ok.mux c.args.path.now files
+    (asked g.O.Opener.files g.O.Opener.tried g.O.Opener.faults g.O.Opener.read_faults c.args.opener.now c.start_at.new.opener)
+    c.requires.unread tells c.in-Ok.ensures.read c.in-Err-start_at.ensures.tried c.in-Err-start_at.met c.end_idle-in-Err-start_at.result _ _ _ _ _ _
+    (c.in-Err-start_at.ensures.begins files has) c.in-Err-start_at.ensures.known c.end_idle-in-Err-start_at.ensures.ended

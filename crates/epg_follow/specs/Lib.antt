@@ -1,0 +1,10 @@
+pub mod Stops
+pub mod Course
+pub mod Items
+pub mod Rest
+pub mod Going
+pub mod Finish
+pub mod Behind
+pub mod Runs
+pub mod SameAsPlay
+pub mod Keeping
