@@ -1,0 +1,11 @@
+pub mod MadeFacts
+pub mod NearFacts
+pub mod LostFacts
+pub mod BridgeFacts
+pub mod MissingFacts
+pub mod AgainFacts
+pub mod RecoveryFacts
+pub mod FoldFacts
+pub mod EndingFacts
+pub mod LeavingFacts
+pub mod ManyRunsFacts
