@@ -4,9 +4,9 @@
 //! the rows that give another answer, and the number of rows, and ends with 1 where one fails. Rows
 //! of `play` cover words, each kind of line, replies and limits of edits, faults of a description,
 //! versions and counters, the smallest runs byte for byte, and the order of reads and writes; then
-//! scripts that are cut and resumed. Rows of `audit` cover airs that are whole, short and changed,
-//! null packets with `--nulls` and without, and files that do not open. Each read and each write
-//! fails in turn.
+//! scripts that are cut and resumed, and scripts that are followed, with lines at fault. Rows of
+//! `audit` cover airs that are whole, short and changed, null packets with `--nulls` and without,
+//! and files that do not open. Each read and each write fails in turn.
 #![tactic(auto)]
 
 mod changed;

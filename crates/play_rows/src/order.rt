@@ -1,7 +1,7 @@
 // What is written before the next piece of an input is read: no clause says it, since each speaks of before and after a run.
 ghost use Rattle.std.specs.Prelude.{None};
 
-use epg_cli::{Status, run_listen, run_play};
+use epg_cli::{Status, run_followed, run_listen, run_play};
 use run_tools::Bench;
 use si_causes::{Failed, Sink, Source};
 use std::alloc::Global;
@@ -68,6 +68,35 @@ impl<'a> Sink for Counting<'a> {
     }
 }
 
+// A sink that counts what it takes into a count that it shares with another sink, and looks at each write what both have taken.
+#[derive(Drop)]
+struct Sharing<'a> {
+    taken: &'a Cell<usize>,
+    // how many bytes both are to have taken at each write
+    due: &'a [usize],
+    writes: usize,
+    agrees: bool,
+}
+
+impl<'a> Sink for Sharing<'a> {
+    ghost written = { λ _. None };
+
+    ghost faults = { λ _. 0 };
+
+    ghost same = { λ _ _. Unit {0} };
+
+    ghost same_at_once = { λ _. tt };
+
+    ghost same_later = { λ _ _ _ _ _. tt };
+
+    fn write(&mut self, from: &[u8]) -> Result<usize, Failed> {
+        self.agrees = self.agrees && self.due.get(self.writes) == Some(&self.taken.get());
+        self.writes = self.writes.saturating_add(1);
+        self.taken.set(self.taken.get().saturating_add(from.len()));
+        Ok(from.len())
+    }
+}
+
 // The lines of a script of two swaps, and how many bytes of the air are there when each is read, and when the end is met.
 const LINES: &[&[u8]] = &[
     b"network,40,Demo\n",
@@ -98,6 +127,36 @@ fn sends_before_it_reads(alloc: Global) -> bool {
     };
     let status = run_play(alloc, &mut input, &mut air, &mut report);
     status == Status::Done && input.agrees && input.reads == SENT.len()
+}
+
+// How many bytes the report and the air of these lines have together when each line is read, and when the end is met: the entry of the
+// publish has 24 bytes, and those of the swaps have 40.
+const FOLLOWED: &[usize] = &[0, 0, 0, 0, 0, 24, 64 + CYCLE, 64 + CYCLE, 104 + 2 * CYCLE];
+
+// How many they have when each cycle is written, which is one write: those of the entry of its swap too.
+const ENTERED: &[usize] = &[64, 104 + CYCLE];
+
+// Whether `play --follow` reports each entry before it sends a cycle or reads the next line, and sends each cycle before it reads that line.
+fn follows_line_by_line(alloc: Global) -> bool {
+    let taken = Cell::new(0);
+    let mut input = Watching {
+        pieces: LINES,
+        taken: &taken,
+        due: FOLLOWED,
+        reads: 0,
+        agrees: true,
+    };
+    let mut air = Sharing {
+        taken: &taken,
+        due: ENTERED,
+        writes: 0,
+        agrees: true,
+    };
+    let mut report = Counting { taken: &taken };
+    let status = run_followed(alloc, false, &mut input, &mut air, &mut report);
+    let as_read = input.agrees && input.reads == FOLLOWED.len();
+    let as_sent = air.agrees && air.writes == ENTERED.len();
+    status == Status::Done && as_read && as_sent
 }
 
 // How many bytes are reported when each of 18 packets is read, and when the end is met: in the first cycle each of PAT, PMT, NIT and
@@ -157,10 +216,11 @@ fn reports_in_order<W: Threads + Wait + Sync>(bench: &mut Bench<W>) -> Option<bo
     Some(reports_before_it_reads(bench.alloc, &packets))
 }
 
-/// `play` or `listen`
+/// `play`, `follow` or `listen`
 pub fn tell_order<W: Threads + Wait + Sync>(bench: &mut Bench<W>, row: &str) -> Option<()> {
     let is_due = match row {
         "play" => sends_before_it_reads(bench.alloc),
+        "follow" => follows_line_by_line(bench.alloc),
         "listen" => reports_in_order(bench)?,
         _ => return None,
     };
