@@ -89,6 +89,13 @@ class Checked:
         self._tried.append(line + b"\n")
 
 
+def to_done(folder: Path, names: Iterable[str]) -> None:
+    """Moves files that an earlier process put on air."""
+    for name in names:
+        if (folder / "taken" / name).exists():
+            os.replace(folder / "taken" / name, folder / "done" / name)
+
+
 class TrialDesk:
     """A desk that has the edits that were accepted, on air or not yet. It goes on from a checkpoint of the air.
 
@@ -145,11 +152,8 @@ class Inbox:
         for name in FOLDERS:
             (folder / name).mkdir(exist_ok=True)
 
-    def begin(self, aired: Iterable[str]) -> None:
-        """Takes up what an earlier process had accepted. `aired`: those of its files that are on air already."""
-        for name in aired:
-            if (self._folder / "taken" / name).exists():
-                self._move(name, "taken", "done")
+    def begin(self) -> None:
+        """Takes up what an earlier process had accepted, and did not put on air."""
         for name in self._names("taken"):
             self._try(name, "taken")
 

@@ -9,6 +9,7 @@ class MemoryFile:
     """Holds these bytes as long as it lives."""
 
     def __init__(self, data: bytes) -> None:
+        self.text = data
         self._number = os.memfd_create("checkpoint")
         self.path = Path(f"/proc/{os.getpid()}/fd/{self._number}")
         with open(self._number, "wb", closefd=False) as target:

@@ -1,4 +1,4 @@
-"""Runs of the program: `play --fold`, cycle by cycle, and as a trial or a replay at once."""
+"""Runs of the program: `play --follow`, cycle by cycle, and `play --fold` of a whole input at once."""
 from __future__ import annotations
 
 import array
@@ -8,20 +8,30 @@ import select
 import subprocess
 import termios
 from pathlib import Path
-from typing import List, NamedTuple, Optional
+from typing import BinaryIO, List, NamedTuple, Optional
 
 READ = 1 << 20
 POLL = 0.002
 # A line that the program passes over.
 MARK = b"#\n"
+# The status of a `play` whose report or whose air can't be written.
+WRITE_FAULT = 10
+
+
+class Faulty(Exception):
+    """Why a head-end can't go on by itself."""
 
 
 class PlayEnded(Exception):
-    """The program ended by itself, or with another status than 0."""
+    """The program ended by itself."""
+
+    def __init__(self, status: int) -> None:
+        super().__init__(f"play ended with status {status}")
+        self.status = status
 
 
 class Outcome(NamedTuple):
-    """How a run ended: its status, and what it left on standard error, a checkpoint or a fault line."""
+    """How a fold ended: its status, and what it left on standard error, a checkpoint or a fault line."""
 
     status: int
     report: bytes
@@ -33,24 +43,25 @@ class Outcome(NamedTuple):
         return last[len("fault: "):] if last.startswith("fault: ") else f"status {self.status}"
 
 
-def words(program: str, checkpoint: Optional[Path]) -> List[str]:
-    """The command that plays, goes on from a checkpoint where there is one, and leaves one."""
-    return [program, "play", "--fold"] + (["--resume", str(checkpoint)] if checkpoint else [])
+def words(program: str, options: List[str], checkpoint: Optional[Path]) -> List[str]:
+    """The command that plays, and goes on from a checkpoint where there is one."""
+    return [program, "play", *options] + (["--resume", str(checkpoint)] if checkpoint else [])
 
 
 def fold_at_once(program: str, checkpoint: Optional[Path], text: bytes) -> Outcome:
-    """Plays a whole input. Its packets go nowhere."""
-    done = subprocess.run(words(program, checkpoint), input=text, stdout=subprocess.DEVNULL, stderr=subprocess.PIPE, check=False)
+    """Plays a whole input and leaves a checkpoint. Its packets go nowhere."""
+    command = words(program, ["--fold"], checkpoint)
+    done = subprocess.run(command, input=text, stdout=subprocess.DEVNULL, stderr=subprocess.PIPE, check=False)
     return Outcome(done.returncode, done.stderr)
 
 
 class Player:
-    """A run of `play --fold` that goes on. A session of its own keeps the signals of a terminal from it."""
+    """A run of `play --follow` that goes on, with its report in a file. A session of its own keeps the signals of a terminal from it."""
 
-    def __init__(self, program: str, checkpoint: Optional[Path], description: bytes) -> None:
+    def __init__(self, program: str, checkpoint: Optional[Path], description: bytes, report: BinaryIO) -> None:
         pipe = subprocess.PIPE
-        command = words(program, checkpoint)
-        self._process = subprocess.Popen(command, stdin=pipe, stdout=pipe, stderr=pipe, bufsize=0, start_new_session=True)
+        command = words(program, ["--follow", "--keep-going"], checkpoint)
+        self._process = subprocess.Popen(command, stdin=pipe, stdout=pipe, stderr=report, bufsize=0, start_new_session=True)
         assert self._process.stdin is not None and self._process.stdout is not None
         self._stdin = self._process.stdin
         self._stdout = self._process.stdout
@@ -80,20 +91,19 @@ class Player:
             if was_read and not packets[-1]:
                 return b"".join(packets)
 
-    def fold(self) -> Outcome:
-        """Ends the input, and waits for the checkpoint."""
-        try:
-            self._process.stdin, rest = None, self._stdin
-            rest.close()
-        except OSError:
-            pass
-        _, report = self._process.communicate()
-        return Outcome(self._process.returncode, report)
+    def end(self) -> int:
+        """Ends the input, and waits for the end of the run. The status."""
+        if not self._stdin.closed:
+            self._process.stdin = None
+            self._stdin.close()
+            os.set_blocking(self._stdout.fileno(), True)
+            self._process.communicate()
+        return self._process.wait()
 
     def stop(self) -> None:
         """Ends the run, whatever it does."""
         self._process.kill()
-        self.fold()
+        self.end()
 
     def _write(self, data: bytes) -> None:
         view = memoryview(data)
@@ -101,7 +111,7 @@ class Player:
             while view:
                 view = view[self._stdin.write(view):]
         except OSError as fault:
-            raise PlayEnded(self._why()) from fault
+            raise PlayEnded(self.end()) from fault
         self.bytes += len(data)
 
     def _come(self) -> bytes:
@@ -112,7 +122,7 @@ class Player:
             if part is None:
                 return b"".join(parts)
             if not part:
-                raise PlayEnded(self._why())
+                raise PlayEnded(self.end())
             parts.append(part)
 
     def _unread(self) -> int:
@@ -120,7 +130,3 @@ class Player:
         number = array.array("i", [0])
         fcntl.ioctl(self._stdin, termios.FIONREAD, number)
         return number[0]
-
-    def _why(self) -> str:
-        outcome = self.fold()
-        return f"play ended with status {outcome.status}, {outcome.fault}"

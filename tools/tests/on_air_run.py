@@ -15,6 +15,7 @@ from loading import TOOLS
 
 BUILT = TOOLS.parent / "crates" / "headend_main" / "out" / "headend_main"
 PROGRAM = Path(os.environ.get("LEPNUGAN", BUILT)).absolute()
+STAND_IN = Path(__file__).resolve().parent / "stand_in"
 DESCRIPTION = """network,40,Demo
 stream,1,1
 service,101,1,1,256,257,Acme,One
@@ -22,14 +23,26 @@ service,102,1,1,258,259,Acme,Two
 end
 """
 
+USAGE = 2
 MISSING = f"the program is not at {PROGRAM}: build it, or name it by the variable LEPNUGAN, with its whole path"
-if not os.access(PROGRAM, os.X_OK):
-    print(f"skipped: the tests of on_air and of the package, since {MISSING}", file=sys.stderr)
+OLDER = f"the program at {PROGRAM} has no play --follow: build it anew"
+
+
+def can_follow() -> bool:
+    """Whether the program has `play --follow`: of other words it says that they are none, before it reads."""
+    return os.access(PROGRAM, os.X_OK) and program("play", "--follow").returncode != USAGE
+
+
+def program(*words: str, data: bytes = b"", path: Path = PROGRAM) -> "subprocess.CompletedProcess[bytes]":
+    return subprocess.run([str(path), *words], input=data, capture_output=True, timeout=60, check=False)
+
+
 needs_program = unittest.skipUnless(os.access(PROGRAM, os.X_OK), MISSING)
-
-
-def program(*words: str, data: bytes = b"") -> "subprocess.CompletedProcess[bytes]":
-    return subprocess.run([str(PROGRAM), *words], input=data, capture_output=True, timeout=60, check=False)
+needs_follow = unittest.skipUnless(can_follow(), OLDER if os.access(PROGRAM, os.X_OK) else MISSING)
+if not os.access(PROGRAM, os.X_OK):
+    print(f"skipped: the tests of on_air with the program, and of the package, since {MISSING}", file=sys.stderr)
+elif not can_follow():
+    print(f"skipped: the tests of on_air with the program, since {OLDER}", file=sys.stderr)
 
 
 def wait_until(what: Callable[[], bool], seconds: float = 10.0) -> bool:
@@ -45,12 +58,12 @@ def wait_until(what: Callable[[], bool], seconds: float = 10.0) -> bool:
 class OnAirRun:
     """One process of on_air, with its state in a folder."""
 
-    def __init__(self, folder: Path, *words: str, description: str = DESCRIPTION) -> None:
+    def __init__(self, folder: Path, *words: str, description: str = DESCRIPTION, path: Path = PROGRAM) -> None:
         self.state = folder / "state"
         (folder / "head.txt").write_text(description, encoding="utf-8")
         (self.state / "status.json").unlink(missing_ok=True)
         command = [sys.executable, str(TOOLS / "air" / "on_air"), "--description", str(folder / "head.txt"), "--state", str(self.state),
-                   "--program", str(PROGRAM), "--every", "0.1", "--ahead", "0.3", *words]
+                   "--program", str(path), "--every", "0.1", "--ahead", "0.3", *words]
         self._log = folder / "log"
         self._begun = time.time_ns()
         with open(self._log, "ab") as log:
@@ -60,9 +73,9 @@ class OnAirRun:
         return self._log.read_text(encoding="utf-8")
 
     def is_playing(self) -> bool:
-        """Whether the first swap of this process is in the script."""
-        found = list(self.state.glob("script-*"))
-        return bool(found) and any(b"\nswap\n" in path.read_bytes() for path in found if path.stat().st_mtime_ns > self._begun)
+        """Whether the first swap of this process is in the journal."""
+        found = [path for path in self.state.glob("journal-*") if path.stat().st_mtime_ns > self._begun]
+        return any(b"\n=,swapped," in path.read_bytes() for path in found)
 
     def status(self) -> Dict[str, Any]:
         """The status file; of one that is not written yet nothing."""

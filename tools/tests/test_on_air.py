@@ -3,6 +3,7 @@
 Ten minutes of air at ten times the rate, outside the gate: LEPNUGAN_LONG=1 tools/tests/run -k TenMinutes
 """
 import os
+import re
 import signal
 import socket
 import subprocess
@@ -13,7 +14,7 @@ from pathlib import Path
 from typing import Dict, List, Tuple
 
 from loading import load
-from on_air_run import DESCRIPTION, OnAirRun, needs_program, program, wait_until, without_nulls
+from on_air_run import DESCRIPTION, PROGRAM, STAND_IN, OnAirRun, needs_follow, program, wait_until, without_nulls
 from air_streams import breaks, ts
 
 load("air/ts_merge")
@@ -42,6 +43,12 @@ def versions(stream: bytes, pid: int) -> Dict[int, "set[bytes]"]:
     return found
 
 
+def names_in_last_sdt(stream: bytes) -> str:
+    """The names of the last SDT of an air of the stand-in, as text between tabs."""
+    last = [one for one in ts.split(stream) if ts.pid_of(one) == SDT][-1]
+    return "".join(f"\t{text}\t" for text in re.split(r"[^ -~]", last[5:].decode("ascii", "replace")))
+
+
 def free_port() -> int:
     with socket.socket(socket.AF_INET, socket.SOCK_DGRAM) as probe:
         probe.bind(("127.0.0.1", 0))
@@ -68,6 +75,8 @@ def gap(moments: List[float]) -> float:
 
 
 class Case(unittest.TestCase):
+    path = PROGRAM
+
     def setUp(self) -> None:
         scratch = tempfile.TemporaryDirectory()
         self.addCleanup(scratch.cleanup)
@@ -75,7 +84,8 @@ class Case(unittest.TestCase):
         self.air = self.folder / "air.ts"
 
     def begin(self, *words: str, **options: object) -> OnAirRun:
-        run = OnAirRun(self.folder, *(words or ("--output", str(self.air), "--rate", "500000")), **options)  # type: ignore[arg-type]
+        words = words or ("--output", str(self.air), "--rate", "500000")
+        run = OnAirRun(self.folder, *words, path=self.path, **options)  # type: ignore[arg-type]
         self.addCleanup(lambda: run.process.poll() is None and run.end(signal.SIGKILL))
         self.assertTrue(wait_until(run.is_playing), run.log())
         return run
@@ -92,7 +102,7 @@ class Case(unittest.TestCase):
         return program("listen", data=self.air.read_bytes()).stderr.decode()
 
 
-@needs_program
+@needs_follow
 class OnAir(Case):
     def test_a_run_is_the_air_of_its_script(self) -> None:
         run = self.begin()
@@ -100,7 +110,8 @@ class OnAir(Case):
         time.sleep(0.5)
         self.assertEqual(run.end(), 0, run.log())
         (self.folder / "sent.ts").write_bytes(without_nulls(self.air.read_bytes()))
-        done = program("audit", f"--air={self.folder / 'sent.ts'}", data=(run.state / "script-0").read_bytes())
+        script = DESCRIPTION.encode() + (run.state / "journal-0").read_bytes()
+        done = program("audit", f"--air={self.folder / 'sent.ts'}", data=script)
         self.assertEqual(done.returncode, 0, done.stderr)
         guide = self.guide()
         self.assertEqual([line.split("\t")[5] for line in guide.splitlines() if line.startswith("now")], ["Harbour", "Fjord"])
@@ -167,7 +178,7 @@ class OnAir(Case):
         self.assertTrue(run.put_on_air("2.txt", name(102, "Second")), run.log())
         time.sleep(0.4)
         self.assertEqual(run.end(), 0, run.log())
-        self.assertIn("going on from the script", run.log())
+        self.assertIn("going on from the journal", run.log())
         self.assert_one_joint(self.air.read_bytes(), before)
         self.assertEqual({version: len(contents) for version, contents in versions(self.air.read_bytes(), SDT).items()}, {0: 1, 1: 1, 2: 1})
         self.assertIn("\tFirst\t", self.guide())
@@ -180,7 +191,7 @@ class OnAir(Case):
         self.assertEqual(run.end(), 0)
 
 
-@needs_program
+@needs_follow
 class Edits(Case):
     BAD = {
         "a-word.txt": ("swop\n", "line 1: only lines of edits may stand here, feed,N,.. and item,.."),
@@ -214,8 +225,7 @@ class Edits(Case):
             self.assertIn(why, run.log())
 
 
-@needs_program
-class FullDisk(Case):
+class FullDiskCase(Case):
     def setUp(self) -> None:
         super().setUp()
         state = self.folder / "state"
@@ -233,7 +243,7 @@ class FullDisk(Case):
             except OSError:
                 pass
 
-    def test_the_air_goes_on_and_edits_wait(self) -> None:
+    def check_that_the_air_goes_on(self) -> None:
         run = self.begin()
         self.assertTrue(run.put_on_air("1.txt", name(101, "Before")), run.log())
         run.edit("2.new", name(101, "After") * 200)
@@ -251,7 +261,7 @@ class FullDisk(Case):
         self.assertEqual(breaks(self.air.read_bytes()), [])
         self.assertIn("\tAfter\t", self.guide())
 
-    def test_a_stop_without_room_says_so_and_loses_nothing(self) -> None:
+    def check_a_stop_without_room(self) -> None:
         run = self.begin()
         self.assertTrue(run.put_on_air("1.txt", name(101, "Before")), run.log())
         self.fill(run.state / "ballast")
@@ -264,7 +274,53 @@ class FullDisk(Case):
         self.assertIn("\tBefore\t", self.guide())
 
 
-@needs_program
+    def check_that_play_goes_on_in_memory(self) -> None:
+        """The journal itself is no longer taken: `play` ends, and the next one has its journal in memory."""
+        run = self.begin("--output", str(self.air), "--rate", "4000000", "--every", "0.005", "--ahead", "0.01")
+        self.assertTrue(run.put_on_air("1.txt", name(101, "Before")), run.log())
+        self.fill(run.state / "ballast")
+        self.assertTrue(wait_until(lambda: "play ended with status 10" in run.log()), run.log())
+        size = self.air.stat().st_size
+        self.assertTrue(wait_until(lambda: self.air.stat().st_size > size + 500_000), run.log())
+        (run.state / "ballast").unlink()
+        self.assertTrue(wait_until(lambda: run.checkpoint() == 1), run.log())
+        run.edit("2.txt", name(101, "After"))
+        self.assertTrue(wait_until(lambda: run.is_on_air("2.txt")), run.log())
+        self.assertEqual(run.end(), 0, run.log())
+        self.assertEqual(breaks(self.air.read_bytes()), [])
+        self.assertEqual({version: len(contents) for version, contents in versions(self.air.read_bytes(), SDT).items()}, {0: 1, 1: 1, 2: 1})
+        self.assertIn("\tAfter\t", self.guide())
+
+
+@needs_follow
+class FullDisk(FullDiskCase):
+    def test_play_goes_on_in_memory(self) -> None:
+        self.check_that_play_goes_on_in_memory()
+
+    def test_the_air_goes_on_and_edits_wait(self) -> None:
+        self.check_that_the_air_goes_on()
+
+    def test_a_stop_without_room_says_so_and_loses_nothing(self) -> None:
+        self.check_a_stop_without_room()
+
+
+class FullDiskWithStandIn(FullDiskCase):
+    path = STAND_IN
+
+    def test_play_goes_on_in_memory(self) -> None:
+        self.check_that_play_goes_on_in_memory()
+
+    def guide(self) -> str:
+        return names_in_last_sdt(self.air.read_bytes())
+
+    def test_the_air_goes_on_and_edits_wait(self) -> None:
+        self.check_that_the_air_goes_on()
+
+    def test_a_stop_without_room_says_so_and_loses_nothing(self) -> None:
+        self.check_a_stop_without_room()
+
+
+@needs_follow
 class Udp(Case):
     def check(self, host: str, seconds: float, *words: str) -> None:
         address = addresses.Address(host, free_port())
@@ -286,7 +342,7 @@ class Udp(Case):
         self.check(GROUP, 1, "--source", "127.0.0.1")
 
 
-@needs_program
+@needs_follow
 @unittest.skipUnless(os.environ.get("LEPNUGAN_LONG"), "long: run by hand with LEPNUGAN_LONG=1")
 class TenMinutes(Case):
     def test_ten_minutes_of_air_at_ten_times_the_rate(self) -> None:
