@@ -38,7 +38,8 @@ pub fn endings_have_no_outcome()
 
 /// A run leaves what stands, whether it ended or a sink failed: its report has whole pieces and a
 /// front of what comes next, and its air the cycles of those pieces, or of the last a front. So does
-/// each run of `play --follow` (`followed`), but one that ran out of memory.
+/// each run of `play --follow` (`followed`), but one that ran out of memory, where the moments in
+/// its ending can be written.
 pub fn what_is_left_stands()
     ensures left { WhatIsLeftStands }
     ensures followed { FollowingLeavesWhatStands }
