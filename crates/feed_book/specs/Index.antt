@@ -1,6 +1,7 @@
 -- The index of a service's events: of each event what the rules look at.
-use Rattle.std.specs.Prelude.{◌≡◌, ℕ, ◌+◌, ◌≤◌, Bool, not, ◌&&◌, ◌==◌, nat_lt, List, if◌then◌else◌, Option, None, option_map, find, map, sum_by, count_by}
-use Rattle.std.specs.List.{AllByRecursion}
+use Rattle.std.specs.Prelude.{◌≡◌, ℕ, ◌+◌, ◌<◌, ◌≤◌, ◌^◌, Bool, not, ◌&&◌, ◌==◌, nat_lt, List, if◌then◌else◌, Option, None, option_map, find, length, map, sum_by, count_by}
+use Rattle.std.specs.List.{All, AllByRecursion}
+use Rattle.std.specs.List.Sorted.{IsNonDecreasingBy}
 use Rattle.guide_model.specs.declared.event.Event.{Event}
 use Rattle.guide_model.specs.declared.guide.ServiceGuide.{ServiceGuide}
 use Rattle.feed_book.specs.declared.index.IndexedEvent.{IndexedEvent}
@@ -35,6 +36,14 @@ slot_fault slots slot =
     or_else (option_map (λ (other : IndexedEvent). fault.Overlap other.id) (find (is_in_the_way slot) slots)) (
     refused_if (nat_lt 2000 count) (fault.Range (field.Count count)) (
     refused_if (nat_lt 20000 size) (fault.Range (field.Segment size)) None))
+
+-- slots in order of their starts and of their ends, few and small enough to be added up
+pub record AreSearchable (slots : List IndexedEvent) : Type 0 where
+  pub few : length slots ≤ 2000
+  pub early : All (λ (slot : IndexedEvent). slot.start < 2 ^ 63) slots
+  pub small : All (λ (slot : IndexedEvent). slot.size ≤ 1338) slots
+  pub starts : IsNonDecreasingBy (λ (slot : IndexedEvent). slot.start) slots
+  pub ends : IsNonDecreasingBy (λ (slot : IndexedEvent). slot.start + slot.seconds) slots
 
 -- the index is that of these events, which are within their limits
 pub record AreIndexed (events : List Event) (slots : List IndexedEvent) : Type 0 where

@@ -1,12 +1,13 @@
 // The index of a service's events: of each event what the rules look at.
-ghost use Rattle.std.specs.Prelude.{◌≡◌, ℕ, ◌+◌, ◌*◌, ◌<◌, ◌≤◌, ◌^◌, Bool, not, ◌==◌, nat_le, nat_lt, length, find, count_by, sum_by, position};
+ghost use Rattle.std.specs.Prelude.{◌≡◌, ℕ, ◌+◌, ◌*◌, ◌<◌, ◌≤◌, ◌^◌, Bool, not, ◌==◌, nat_le, nat_lt, length, find, count_by, sum_by, position, vec_len, vec_capacity};
 ghost use Rattle.std.specs.List.{All, position_or_len};
 ghost use Rattle.std.specs.List.Sorted.{IsNonDecreasingBy};
 ghost use Rattle.std.specs.Prelude.{◌/◌, slice_index_or};
 ghost use Rattle.guide_limits.specs.Events.{block_of};
 ghost use Rattle.feed_book.specs.declared.index.IndexedEvent.{IndexedEvent as Shape};
 ghost use Rattle.guide_limits.specs.Limits.{IsEventWithin};
-ghost use Rattle.feed_book.specs.Index.{slot_of as slot_of_event, is_in_the_way, other_ids, share_of, slot_fault};
+ghost use Rattle.feed_book.specs.Index.{slot_of as slot_of_event, is_in_the_way, other_ids, share_of, slot_fault, AreSearchable};
+ghost use Rattle.feed_book.specs.Places.{IsPlace, put_at as item_at};
 
 use desc_event::event_len;
 use guide_model::Event;
@@ -59,9 +60,7 @@ fn first_in_block(slots: &[IndexedEvent], block: u64) -> usize
 // The first slot in the way: the earlier ones end too early, and the later ones start too late.
 fn first_in_the_way(slots: &[IndexedEvent], slot: &IndexedEvent) -> Option<IndexedEvent>
     requires slot { slot.now.start < 2 ^ 63 }
-    requires others { All (λ (other : Shape). other.start < 2 ^ 63) slots.now }
-    requires starts { IsNonDecreasingBy (λ (s : Shape). s.start) slots.now }
-    requires ends { IsNonDecreasingBy (λ (s : Shape). s.start + s.seconds) slots.now }
+    requires slots { AreSearchable slots.now }
     ensures { result ≡ find (is_in_the_way slot.now) slots.now }
 {
     let end = slot.start + u64::from(slot.seconds);
@@ -103,9 +102,7 @@ fn share(slot: &IndexedEvent, other: &IndexedEvent) -> u32
 
 // The sizes of the other slots in the slot's block, added up.
 fn block_size(slots: &[IndexedEvent], slot: &IndexedEvent) -> u32
-    requires few { length slots.now ≤ 2000 }
-    requires small { All (λ (other : Shape). other.size ≤ 1338) slots.now }
-    requires starts { IsNonDecreasingBy (λ (s : Shape). s.start) slots.now }
+    requires { AreSearchable slots.now }
     ensures size { result ≡ sum_by (share_of slot.now) slots.now }
     ensures bound { result ≤ 2676000 }
 {
@@ -123,7 +120,7 @@ fn block_size(slots: &[IndexedEvent], slot: &IndexedEvent) -> u32
 
 // Whether more than 2,000 stand with one of this id. They are counted only where so many stand already.
 fn are_too_many(slots: &[IndexedEvent], id: u16) -> bool
-    requires { length slots.now ≤ 2000 }
+    requires { AreSearchable slots.now }
     ensures { result ≡ nat_lt 2000 (1 + count_by (other_ids id) slots.now) }
 {
     if slots.len() < 2000 {
@@ -134,13 +131,9 @@ fn are_too_many(slots: &[IndexedEvent], id: u16) -> bool
 
 /// What the slot breaks among the others.
 pub(crate) fn place_fault(slots: &[IndexedEvent], slot: &IndexedEvent) -> Option<DayFault>
+    requires slots { AreSearchable slots.now }
     requires early { slot.now.start < 2 ^ 63 }
-    requires others_early { All (λ (other : Shape). other.start < 2 ^ 63) slots.now }
-    requires few { length slots.now ≤ 2000 }
-    requires tiny { slot.now.size ≤ 1338 }
-    requires small { All (λ (other : Shape). other.size ≤ 1338) slots.now }
-    requires starts { IsNonDecreasingBy (λ (s : Shape). s.start) slots.now }
-    requires ends { IsNonDecreasingBy (λ (s : Shape). s.start + s.seconds) slots.now }
+    requires small { slot.now.size ≤ 1338 }
     ensures { result ≡ slot_fault slots.now slot.now }
 {
     if let Some(other) = first_in_the_way(slots, slot) {
@@ -170,12 +163,53 @@ pub(crate) fn place_of_id(slots: &[IndexedEvent], id: u16) -> usize
     slots.len()
 }
 
-/// The place of the first slot that starts at this moment or later, or the length.
-pub(crate) fn place_of_start(slots: &[IndexedEvent], start: u64) -> usize
-    ensures place { IsNonDecreasingBy (λ (s : Shape). s.start) slots.now → result ≡ position_or_len (λ (slot : Shape). nat_le start slot.start) slots.now }
-    ensures bound { result ≤ length slots.now }
+// The place of the first slot that starts at this moment or later, or the length.
+fn place_of_start(slots: &[IndexedEvent], start: u64) -> usize
+    ensures { IsNonDecreasingBy (λ (s : Shape). s.start) slots.now → result ≡ position_or_len (λ (slot : Shape). nat_le start slot.start) slots.now }
 {
     slots.partition_point(|s| s.start < start)
+}
+
+/// Where an item goes in a list: the one at `gone` is taken out, unless that is the length, and the item stands at `to` of the
+/// rest.
+#[derive(Clone, Copy)]
+pub(crate) struct Place {
+    gone: usize,
+    to: usize,
+}
+
+/// Where an event goes among the events of an index, in place of the one of its id.
+pub(crate) fn place_of(slots: &[IndexedEvent], slot: &IndexedEvent) -> Place
+    ensures { IsPlace slots.now slot.now result }
+{
+    let gone = place_of_id(slots, slot.id);
+    let to = place_of_start(slots, slot.start);
+    Place {
+        gone,
+        to: if gone < to { to - 1 } else { to },
+    }
+}
+
+/// Puts an item at a place in a list that has room for it.
+pub(crate) fn put_at<T: Drop>(list: &mut Vec<T>, place: Place, item: T)
+    requires room { vec_len list.old < vec_capacity list.old }
+    ensures items { list.new.items ≡ item_at place list.old.items item }
+    ensures len { vec_len list.new ≤ vec_len list.old + 1 }
+    ensures capacity { vec_capacity list.old ≤ vec_capacity list.new }
+{
+    if place.gone < list.len() {
+        if place.gone == place.to {
+            // The item falls on the old one: nothing moves.
+            list[place.to] = item;
+            return;
+        }
+        list.remove(place.gone);
+    }
+    let to = place.to.min(list.len());
+    match list.insert(to, item) {
+        Ok(()) => {}
+        Err(_) => unreachable!(),
+    }
 }
 
 /// The slot of an event.

@@ -1,5 +1,5 @@
-use Rattle.std.proofs.Common.{ℕ, ◌≡◌, ◌∙◌, ap, sym}
-use Rattle.std.specs.Prelude.{Some, None, nat_lt, position}
+use Rattle.std.proofs.Common.{ℕ, ◌∙◌, ap, sym}
+use Rattle.std.specs.Prelude.{nat_lt, position}
 use Rattle.guide_limits.specs.KeptService.{KeptService}
 use Rattle.mux_model.proofs.Placing.{place_found, place_none}
 use Rattle.feed_book.specs.Books.{has_lower_kept_id}

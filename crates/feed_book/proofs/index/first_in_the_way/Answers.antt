@@ -16,7 +16,7 @@ returns-after-loop-i c = sym (find_none (is_in_the_way c.args.slot.now) c.args.s
 pub returns-then-end-other : goal.returns-then-end-other
 unfolding none
 returns-then-end-other c =
-    sym (find_nowhere c.args.slot.now c.args.slots.now c.loop-i.i none c.requires.starts (λ k h. c.loop-i.invariant k none h) c.loop-i-test.true (omega (arith, c.if-end-other.true, c.from.ensures)))
+    sym (find_nowhere c.args.slot.now c.args.slots.now c.loop-i.i none c.requires.slots.starts (λ k h. c.loop-i.invariant k none h) c.loop-i-test.true (omega (arith, c.if-end-other.true, c.from.ensures)))
 
 pub returns-then-blocks : goal.returns-then-blocks
 unfolding none

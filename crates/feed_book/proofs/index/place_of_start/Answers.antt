@@ -5,8 +5,8 @@ use Rattle.std.proofs.lemmas.List.Sorted.{IsPartitionPoint-from_clause, IsPartit
 use Rattle.feed_book.specs.declared.index.IndexedEvent.{IndexedEvent}
 use Rattle.feed_book.proofs.index.place_of_start.Goals as goal
 
-pub returns-clause-place : goal.returns-clause-place
-returns-clause-place c rises =
+pub returns : goal.returns
+returns c rises =
     let none : IndexedEvent = record { id = 0; start = 0; seconds = 0; size = 0 } in
     let parts = IsPartitionPoint-from_clause (λ (s : IndexedEvent). ltb s.start c.args.start) c.args.slots.now c.partition_point.result c.partition_point.ensures.partitioned
     (IsPartitionedBy-ltb (λ (s : IndexedEvent). s.start) c.args.slots.now c.args.start rises) (λ a r f' t. search rules) in
