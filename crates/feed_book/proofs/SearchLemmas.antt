@@ -1,43 +1,32 @@
 -- The first of a list that passes a test, sums of which a part adds nothing, and the slots that a search may leave out.
-use Rattle.std.proofs.Common.{◌≡◌, ℕ, zero, suc, ◌+◌, ◌/◌, ◌<◌, ◌≤◌, Bool, true, false, not, inl, inr, List, [], ◌∷◌, length, take, get_or, Some, None, eqb, ltb, refl, sym, ◌∙◌, ap, arith}
-use Rattle.std.specs.List.{find, sum_by}
+use Rattle.std.proofs.Common.{◌≡◌, ℕ, ◌+◌, ◌/◌, ◌<◌, ◌≤◌, Bool, true, false, not, inl, inr, List, length, take, drop, get_or, Some, None, eqb, ltb, refl, ◌∙◌, ap, arith, length-take, length-drop}
+use Rattle.std.specs.List.{All, find, sum_by}
 use Rattle.std.specs.List.Sorted.{IsNonDecreasingBy}
-use Rattle.std.proofs.lemmas.Bool.{cond-true, cond-false, and_left, and_right, le-ltb, ne_eqb, cases_lt}
-use Rattle.std.proofs.lemmas.List.Sums.{sum_by-cons}
+use Rattle.std.proofs.lemmas.Bool.{cond-false, and_left, and_right, le-ltb, ne_eqb, cases_lt}
+use Rattle.std.proofs.lemmas.List.{get_or-take, get_or-drop}
+use Rattle.std.proofs.lemmas.List.Recursion.{found_at, found_nowhere}
+use Rattle.std.proofs.lemmas.List.Sums.{sum_by-le, sum_by-take-drop}
 use Rattle.feed_book.specs.declared.index.IndexedEvent.{IndexedEvent}
 use Rattle.guide_limits.specs.Events.{block_of}
 use Rattle.feed_book.specs.Index.{is_in_the_way, share_of}
 
 pub find_none : {X : Type 0} (p : X → Bool) (xs : List X) (d : X) → ((k : ℕ) → k < length xs → p (get_or xs k d) ≡ false) → find p xs ≡ None
-find_none p [] d h = refl
-find_none p (x ∷ xs) d h = cond-false (p x) (Some x) (find p xs) (h 0 (omega arith)) ∙ find_none p xs d (λ k l. h (suc k) (omega arith))
+find_none p = found_nowhere (find p) p Some None refl (λ x xs. refl)
 
 pub find_first : {X : Type 0} (p : X → Bool) (xs : List X) (i : ℕ) (d : X) → i < length xs → ((k : ℕ) → k < i → p (get_or xs k d) ≡ false) → p (get_or xs i d) ≡ true → find p xs ≡ Some (get_or xs i d)
-find_first p [] i d l h t = absurd (omega arith)
-find_first p (x ∷ xs) zero d l h t = cond-true (p x) (Some x) (find p xs) t
-find_first p (x ∷ xs) (suc i) d l h t = cond-false (p x) (Some x) (find p xs) (h 0 (omega arith)) ∙ find_first p xs i d (omega arith) (λ k m. h (suc k) (omega arith)) t
+find_first p = found_at (find p) p Some None refl (λ x xs. refl)
 
 -- sums of nothing, and of a list that adds nothing from a place on
-pub sum_by-none : {X : Type 0} (f : X → ℕ) (xs : List X) (d : X) → ((k : ℕ) → k < length xs → f (get_or xs k d) ≡ 0) → sum_by f xs ≡ 0
-sum_by-none f [] d h = refl
-sum_by-none f (x ∷ xs) d h = sum_by-cons f x xs ∙ both (h 0 (omega arith)) (sum_by-none f xs d (λ k l. h (suc k) (omega arith)))
-  where
-    both : {a b : ℕ} → a ≡ 0 → b ≡ 0 → a + b ≡ 0
-    both {a} {b} p q = omega arith
+sum_by-none : {X : Type 0} (f : X → ℕ) (xs : List X) → All (λ x. f x ≡ 0) xs → sum_by f xs ≡ 0
+sum_by-none f xs h = omega (arith, sum_by-le f 0 xs (λ k d l. omega (arith, h k d l)))
 
-pub sum_by-take_none : {X : Type 0} (f : X → ℕ) (xs : List X) (i : ℕ) (d : X) → i ≤ length xs → ((k : ℕ) → k < i → f (get_or xs k d) ≡ 0) → sum_by f (take i xs) ≡ 0
-sum_by-take_none f xs zero d l h = refl
-sum_by-take_none f [] (suc i) d l h = refl
-sum_by-take_none f (x ∷ xs) (suc i) d l h = sum_by-cons f x (take i xs) ∙ both (h 0 (omega arith)) (sum_by-take_none f xs i d (omega arith) (λ k m. h (suc k) (omega arith)))
-  where
-    both : {a b : ℕ} → a ≡ 0 → b ≡ 0 → a + b ≡ 0
-    both {a} {b} p q = omega arith
+pub sum_by-take_none : {X : Type 0} (f : X → ℕ) (xs : List X) (i : ℕ) → ((k : ℕ) (d : X) → k < i → f (get_or xs k d) ≡ 0) → sum_by f (take i xs) ≡ 0
+sum_by-take_none f xs i h = sum_by-none f (take i xs) (λ k d l. let m : k < i = omega (arith, length-take i xs) in ap f (get_or-take i xs k d m) ∙ h k d m)
 
-pub sum_by-rest_none : {X : Type 0} (f : X → ℕ) (xs : List X) (i : ℕ) (d : X) → ((k : ℕ) → i ≤ k → k < length xs → f (get_or xs k d) ≡ 0) → sum_by f (take i xs) ≡ sum_by f xs
-sum_by-rest_none f [] zero d h = refl
-sum_by-rest_none f [] (suc i) d h = refl
-sum_by-rest_none f (x ∷ xs) zero d h = sym (sum_by-none f (x ∷ xs) d (λ k l. h k (omega arith) l))
-sum_by-rest_none f (x ∷ xs) (suc i) d h = sum_by-cons f x (take i xs) ∙ ap (λ n. f x + n) (sum_by-rest_none f xs i d (λ k m l. h (suc k) (omega arith) (omega arith))) ∙ sym (sum_by-cons f x xs)
+pub sum_by-rest_none : {X : Type 0} (f : X → ℕ) (xs : List X) (i : ℕ) → ((k : ℕ) (d : X) → i ≤ k → k < length xs → f (get_or xs k d) ≡ 0) → sum_by f (take i xs) ≡ sum_by f xs
+sum_by-rest_none f xs i h =
+    let rest = sum_by-none f (drop i xs) (λ k d l. ap f (get_or-drop i xs k d) ∙ h (i + k) d (omega arith) (omega (arith, length-drop i xs))) in
+    omega (arith, rest, sum_by-take-drop f xs i)
 
 -- a slot that ends too early or starts too late is not in the way
 pub early_out : (slot other : IndexedEvent) → other.start + other.seconds ≤ slot.start → is_in_the_way slot other ≡ false

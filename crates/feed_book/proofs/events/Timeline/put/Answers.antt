@@ -2,11 +2,10 @@ use Rattle.std.proofs.Common.{◌≡◌, List, None, sym, ◌∙◌, ap, subst}
 use Rattle.guide_model.specs.declared.event.Event.{Event}
 use Rattle.guide_model.specs.declared.guide.ServiceGuide.{ServiceGuide}
 use Rattle.guide_limits.specs.Readings.{event_of}
-use Rattle.feed_book.specs.declared.index.IndexedEvent.{IndexedEvent}
 use Rattle.feed_book.specs.Replies.{put, item_fault}
 use Rattle.feed_book.specs.Index.{AreIndexed, AreSearchable}
 use Rattle.feed_book.specs.Places.{IsNew, put_at}
-use Rattle.feed_book.proofs.Indexed.{searchable, new-put, indexed-new, with_events}
+use Rattle.feed_book.proofs.Indexed.{searchable, new-put, indexed-new}
 use Rattle.feed_book.proofs.events.Timeline.put.Goals as goal
 
 pub read_item-requires : goal.read_item-requires
@@ -20,8 +19,8 @@ invariant_of-self-2 c =
     let indexed : AreIndexed guide.events slots = subst (AreIndexed guide.events) (sym c.deref.ensures.value) c.self.invariant.events in
     let new : IsNew slots c.args.item.now fresh = rw c.in-Ok.is at c.in_ok-fresh.ensures.event in
     let fine : None ≡ item_fault None guide.events c.args.item.now = rw c.in-Ok.is at c.in_ok-fresh.ensures.fault guide.events indexed.index in
-    let same : c.change.result.now ≡ guide = c.change.ensures.value ∙ c.own.ensures.guide in
-    with_events guide c.change.result.now (put (event_of c.args.item.now) guide.events) c.put_at.new.list.items (put_at fresh.place slots fresh.slot) c.put_at-2.new.list.items c.self.invariant.names
-    (indexed-new None c.args.item.now guide.events slots fresh new indexed (sym fine)) same
-    (c.put_at.ensures.items ∙ ap (λ (es : List Event). put_at fresh.place es fresh.event) (c.in_ok-reserve-2.ensures.items ∙ c.events.view_is ∙ ap (λ (g : ServiceGuide). g.events) same) ∙ new-put c.args.item.now guide.events slots fresh new indexed)
-    (c.put_at-2.ensures.items ∙ ap (λ (ss : List IndexedEvent). put_at fresh.place ss fresh.slot) (c.in_ok-reserve.ensures.items ∙ sym c.deref.ensures.value))
+    let same = c.change.ensures.value ∙ c.own.ensures.guide in
+    let put_is : c.put_at.new.list.items ≡ put (event_of c.args.item.now) guide.events
+    = c.put_at.ensures.items ∙ ap (λ (es : List Event). put_at fresh.place es fresh.event) (c.in_ok-reserve-2.ensures.items ∙ c.events.view_is ∙ ap (λ (g : ServiceGuide). g.events) same) ∙ new-put c.args.item.now guide.events slots fresh new indexed in
+    rw (same, put_is, c.put_at-2.ensures.items, c.in_ok-reserve.ensures.items, ← c.deref.ensures.value)
+    (record { names = c.self.invariant.names; events = indexed-new None c.args.item.now guide.events slots fresh new indexed (sym fine) })
