@@ -11,7 +11,6 @@ use Rattle.air_model.specs.Air.{Aired}
 use Rattle.mux_model.specs.declared.mux.Mux.{Mux}
 use Rattle.mux_model.proofs.FedFacts.{fed_named}
 use Rattle.mux_config.specs.Descriptions.{Description}
-use Rattle.mux_config.specs.Texts.{described}
 use Rattle.mux_config.proofs.FineLines.{described_texts_are_kept, whole_descriptions_are_sound}
 use Rattle.journal_model.specs.declared.step.Entry.{Entry}
 use Rattle.journal_model.specs.Steps.{Command}
@@ -36,15 +35,15 @@ use Rattle.epg_play.specs.declared.stop.PlayStop.{PlayStop}
 use Rattle.epg_play.specs.declared.stop.PlayStop.TheVariants.{NoMux as Undescribed, NoCommand as Refused, Disagrees as Differs, Read, Air as OnAir, Memory as NoMemory}
 use Rattle.epg_play.specs.Leaves.{Completes, IsOfPlay}
 use Rattle.epg_play.specs.Played.{course}
-use Rattle.epg_play.specs.Script.{Stop, NoMux, script_in, script_with}
+use Rattle.epg_play.specs.Script.{Stop, NoMux, script_with, script_within}
 use Rattle.epg_play.specs.declared.played.Course.{Course}
 use Rattle.epg_play.specs.declared.played.Played.{Played}
 use Rattle.epg_play.specs.Beginning.{BeginsAt, IsNew, IsNotBegun, IsOfResume}
 use Rattle.epg_play.specs.Checkpointed.{HasRun, IsCheckpoint, checkpoint_limit, checkpoint_of}
 use Rattle.epg_play.specs.Courses.{BeganAt, BegunFrom, CourseBehind, DeskDid, Finished, IsMetByResume, IsMetByScript, NotPlayed, PlayedNew, PlayedResumed, met_by, played_text}
 use Rattle.epg_play.specs.Behind.{LeavesBehind}
-use Rattle.epg_play.specs.CheckpointRuns.{Begins, FoldRun, Nothing, NothingAsked, ResumeRun, Resumes, Tells, course_on}
-use Rattle.epg_play.specs.Over.{LeavesBy, LeavesOver}
+use Rattle.epg_play.specs.CheckpointRuns.{Begins, FoldRunWithin, Nothing, NothingAsked, ResumeRunWithin, Resumes, Tells, course_on}
+use Rattle.epg_play.specs.Over.{LeavesBy, LeavesOver, described_within}
 use Rattle.epg_play.proofs.Bases.{begun_aired, begun_tallied, folded_base, new_base, nothing_folded}
 use Rattle.epg_play.proofs.BehindFacts.{leaves_behind}
 use Rattle.epg_play.proofs.OverFacts.{AreDescribed, over_done, over_same}
@@ -107,33 +106,33 @@ nothing_of : (air report : ReportTaken) (status : Status) → air.new ≡ air.ol
 nothing_of air report status same took = (subst (λ (w : Option (List ℕ)). Appends air.old w []) (sym same) (Appends-nothing air.old), took)
 
 -- Where nothing was played, the line of the fault is all that is reported: what is left then is `Left`.
-module _ (fold : Bool) (report : ReportTaken) (played : Played) (Idle Left : Status → Type 0) (B B2 : Mux → Ahead → Status → Type 0)
+module _ (limit : ℕ) (fold : Bool) (report : ReportTaken) (played : Played) (Idle Left : Status → Type 0) (B B2 : Mux → Ahead → Status → Type 0)
     (idle : (met : Status) → Idle met → (played.course ≡ None) × (Reported report (fault_lines met) → Left met))
     (behind : (mux : Mux) (lines : Ahead) (status : Status) → AreDescribed mux lines → B mux lines played.met → Finished fold played report status → B2 mux lines status) where
   -- the status is the one that was met
   same_over : (text : List ℕ) (left : Option (List ℕ)) → Finished fold played report played.met
       → Appends report.old report.new (played_text fold played.course played.met ++ fault_lines played.met)
       ⊎ (Rose report.faults_old report.faults_new × AppendsFront report.old report.new (played_text fold played.course played.met ++ fault_lines played.met))
-      → LeavesOver Idle B text left played.met → LeavesOver Left B2 text left played.met
+      → LeavesOver limit Idle B text left played.met → LeavesOver limit Left B2 text left played.met
   same_over text left finished took over =
-      over_same Idle Left B B2 text left played.met (λ mux lines is b. behind mux lines played.met is b finished)
+      over_same Idle Left B B2 limit text left played.met (λ mux lines is b. behind mux lines played.met is b finished)
       (λ i. (idle played.met i).1 (idle_reported fold played.course played.met report (idle played.met i).0 took)) over
 
-  pub ended_over : (text : List ℕ) (left : Option (List ℕ)) (status : Status) → LeavesOver Idle B text left played.met → Finished fold played report status → LeavesOver Left B2 text left status
-  ended_over text left status over (inl memory) = subst (LeavesOver Left B2 text left) (sym memory) tt
+  pub ended_over : (text : List ℕ) (left : Option (List ℕ)) (status : Status) → LeavesOver limit Idle B text left played.met → Finished fold played report status → LeavesOver limit Left B2 text left status
+  ended_over text left status over (inl memory) = subst (LeavesOver limit Left B2 text left) (sym memory) tt
   ended_over text left status over (inr e) = by (or_cases played.met) e.reported
     where
-      by : (played.met ≡ Done) ⊎ (or_report played.met ≡ played.met) → ReportEnds played.met (played_text fold played.course played.met) report status → LeavesOver Left B2 text left status
+      by : (played.met ≡ Done) ⊎ (or_report played.met ≡ played.met) → ReportEnds played.met (played_text fold played.course played.met) report status → LeavesOver limit Left B2 text left status
       by own (inl (took, is)) =
-          subst (LeavesOver Left B2 text left) (sym is)
+          subst (LeavesOver limit Left B2 text left) (sym is)
           (same_over text left (inr (record { reported = inl (took, refl); handed = e.handed })) (inl took) over)
       by (inl done) (inr (rose, front, is)) =
-          subst (LeavesOver Left B2 text left) (sym (is ∙ ap or_report done))
-          (over_done Idle Left B B2 text left
+          subst (LeavesOver limit Left B2 text left) (sym (is ∙ ap or_report done))
+          (over_done Idle Left B B2 limit text left
           (λ mux lines d b. behind mux lines (WriteFault Report) d (subst (B mux lines) (sym done) b) (inr (record { reported = inr (rose, front, sym (ap or_report done)); handed = e.handed })))
-          (subst (LeavesOver Idle B text left) done over))
+          (subst (LeavesOver limit Idle B text left) done over))
       by (inr own) (inr (rose, front, is)) =
-          subst (LeavesOver Left B2 text left) (sym (is ∙ own))
+          subst (LeavesOver limit Left B2 text left) (sym (is ∙ own))
           (same_over text left (inr (record { reported = inr (rose, front, sym own); handed = e.handed })) (inr (rose, front)) over)
 
 -- ---- a head-end that did nothing yet
@@ -194,13 +193,13 @@ new_decides fold (Stopped (NoLine n)) air report status leave known no_input no_
 new_decides fold (Stopped PastEnd) air report status leave known no_input no_air no_report = subst (Completes (script_with (Stopped PastEnd)).stop) (sym leave.0) refl
 new_decides fold (Stopped Broken) air report status leave known no_input no_air no_report = absurd (no_input leave.0)
 
-pub new_completes : (fold : Bool) (text : List ℕ) (left : Option (List ℕ)) (air report : ReportTaken) (status : Status) → LeavesOver (Nothing air report) (λ mux. LeavesBehind fold mux [] [] air report) text left status → IsOfPlay status
-    → (status ≡ ReadFault Input → ⊥) → (status ≡ WriteFault Air → ⊥) → (status ≡ WriteFault Report → ⊥) → Completes (script_in text).stop status
-new_completes fold text left air report (ReadFault Input) over known no_input no_air no_report = absurd (no_input refl)
-new_completes fold text left air report (ReadFault (Feed f)) over known no_input no_air no_report = absurd known
-new_completes fold text left air report (ReadFault Recording) over known no_input no_air no_report = absurd known
-new_completes fold text left air report Memory over known no_input no_air no_report = tt
-new_completes fold text left air report other over known no_input no_air no_report = new_decides fold (described text) air report other over known no_input no_air no_report
+pub new_completes : (limit : ℕ) (fold : Bool) (text : List ℕ) (left : Option (List ℕ)) (air report : ReportTaken) (status : Status) → LeavesOver limit (Nothing air report) (λ mux. LeavesBehind fold mux [] [] air report) text left status → IsOfPlay status
+    → (status ≡ ReadFault Input → ⊥) → (status ≡ WriteFault Air → ⊥) → (status ≡ WriteFault Report → ⊥) → Completes (script_within limit text).stop status
+new_completes limit fold text left air report (ReadFault Input) over known no_input no_air no_report = absurd (no_input refl)
+new_completes limit fold text left air report (ReadFault (Feed f)) over known no_input no_air no_report = absurd known
+new_completes limit fold text left air report (ReadFault Recording) over known no_input no_air no_report = absurd known
+new_completes limit fold text left air report Memory over known no_input no_air no_report = tt
+new_completes limit fold text left air report other over known no_input no_air no_report = new_decides fold (described_within limit text) air report other over known no_input no_air no_report
 
 script_no_report : (met : Status) → IsMetByScript met → met ≡ WriteFault Report → ⊥
 script_no_report met is e = subst IsMetByScript e is
@@ -211,22 +210,22 @@ script_known (WriteFault Air) is = is
 script_known other is = is
 
 -- A run from a head-end that did nothing yet, whose report is the journal or, with `--fold`, the checkpoint.
-pub record NewRun (fold : Bool) (input : SourceGave) (air report : ReportTaken) (status : Status) : Type 0 where
-  pub leaves : (text : List ℕ) → input.old ≡ Some text → LeavesOver (Nothing air report) (λ mux. LeavesBehind fold mux [] [] air report) text input.new status
+pub record NewRun (limit : ℕ) (fold : Bool) (input : SourceGave) (air report : ReportTaken) (status : Status) : Type 0 where
+  pub leaves : (text : List ℕ) → input.old ≡ Some text → LeavesOver limit (Nothing air report) (λ mux. LeavesBehind fold mux [] [] air report) text input.new status
   pub completes : (text : List ℕ) → input.old ≡ Some text → ¬ (Rose input.faults_old input.faults_new) → ¬ (Rose air.faults_old air.faults_new)
-      → ¬ (Rose report.faults_old report.faults_new) → Completes (script_in text).stop status
+      → ¬ (Rose report.faults_old report.faults_new) → Completes (script_within limit text).stop status
   pub known : IsOfPlay status
   pub end : status ≡ Done → IsAtEnd input.new
   pub input_cause : status ≡ ReadFault Input → Rose input.faults_old input.faults_new
   pub air_cause : status ≡ WriteFault Air → Rose air.faults_old air.faults_new
   pub report_cause : status ≡ WriteFault Report → Rose report.faults_old report.faults_new
 
-pub ran_new : (fold : Bool) (input : SourceGave) (air report : ReportTaken) (played : Played) (status : Status) → ((text : List ℕ) → input.old ≡ Some text → PlayedNew text input.new air.old air.new played)
+pub ran_new : (limit : ℕ) (fold : Bool) (input : SourceGave) (air report : ReportTaken) (played : Played) (status : Status) → ((text : List ℕ) → input.old ≡ Some text → PlayedNew limit text input.new air.old air.new played)
     → IsMetByScript played.met → (played.met ≡ Done → IsAtEnd input.new) → (played.met ≡ ReadFault Input → Rose input.faults_old input.faults_new) → (played.met ≡ WriteFault Air → Rose air.faults_old air.faults_new)
-    → Finished fold played report status → NewRun fold input air report status
-ran_new fold input air report played status over known end input_rose air_rose finished =
+    → Finished fold played report status → NewRun limit fold input air report status
+ran_new limit fold input air report played status over known end input_rose air_rose finished =
     let leaves = λ (text : List ℕ) (tells : input.old ≡ Some text).
-    ended_over fold report played (λ met. NotPlayed air.old air.new played) (Nothing air report)
+    ended_over limit fold report played (λ met. NotPlayed air.old air.new played) (Nothing air report)
     (λ mux lines met. CourseBehind (IsNew mux) air.old air.new played lines) (λ mux. LeavesBehind fold mux [] [] air report)
     (λ met idle. (idle.no_course, nothing_of air report met idle.air))
     (λ mux lines s is c f. new_behind fold air report played mux lines s is c f) text input.new status (over text tells) finished in
@@ -237,7 +236,7 @@ ran_new fold input air report played status over known end input_rose air_rose f
     record {
       leaves = leaves;
       completes = λ text tells no_input no_air no_report.
-          new_completes fold text input.new air report status (leaves text tells) is_known (λ e. no_input (input_cause e)) (λ e. no_air (air_cause e)) (λ e. no_report (report_cause e));
+          new_completes limit fold text input.new air report status (leaves text tells) is_known (λ e. no_input (input_cause e)) (λ e. no_air (air_cause e)) (λ e. no_report (report_cause e));
       known = is_known;
       end = λ e. end (met_is fold played report status finished Done (λ no. cc no) (λ no. cc no) e);
       input_cause = input_cause;
@@ -246,8 +245,8 @@ ran_new fold input air report played status over known end input_rose air_rose f
     }
 
 -- where memory was wanting before any
-pub new_memory : (fold : Bool) (input : SourceGave) (air report : ReportTaken) (status : Status) → status ≡ Memory → NewRun fold input air report status
-new_memory fold input air report status e = subst (NewRun fold input air report) (sym e) (record {
+pub new_memory : (limit : ℕ) (fold : Bool) (input : SourceGave) (air report : ReportTaken) (status : Status) → status ≡ Memory → NewRun limit fold input air report status
+new_memory limit fold input air report status e = subst (NewRun limit fold input air report) (sym e) (record {
   leaves = λ text tells. tt;
   completes = λ text tells no_input no_air no_report. tt;
   known = tt;
@@ -259,8 +258,8 @@ new_memory fold input air report status e = subst (NewRun fold input air report)
 
 -- ---- `play --fold`
 
-pub folded_run : (input : SourceGave) (air report : ReportTaken) (status : Status) → NewRun true input air report status → FoldRun input air report status
-folded_run input air report status run = record {
+pub folded_run : (limit : ℕ) (input : SourceGave) (air report : ReportTaken) (status : Status) → NewRun limit true input air report status → FoldRunWithin limit input air report status
+folded_run limit input air report status run = record {
   leaves = run.leaves;
   completes = run.completes;
   known = run.known;
@@ -270,8 +269,8 @@ folded_run input air report status run = record {
   report_cause = run.report_cause;
 }
 
-pub fold_memory : (input : SourceGave) (air report : ReportTaken) (status : Status) → status ≡ Memory → FoldRun input air report status
-fold_memory input air report status e = folded_run input air report status (new_memory true input air report status e)
+pub fold_memory : (limit : ℕ) (input : SourceGave) (air report : ReportTaken) (status : Status) → status ≡ Memory → FoldRunWithin limit input air report status
+fold_memory limit input air report status e = folded_run limit input air report status (new_memory limit true input air report status e)
 
 -- ---- from a checkpoint
 
@@ -402,16 +401,16 @@ by_found : (path : List ℕ) (files : Files) (fold : Bool) (opener : OpenerAsked
 by_found path files fold opener air report found mux lines status e leave =
     (let r = subst (λ (f : Found Description). LeavesBy (NothingAsked opener air report) (Resumes path files fold opener air report) f status) e leave in r.begins)
 
-resume_completes : (path : List ℕ) (files : Files) (fold : Bool) (opener : OpenerAsked) (air report : ReportTaken) (text : List ℕ) (left : Option (List ℕ)) (mux : Mux) (lines : Ahead) (bytes : List ℕ) (cp : Checkpoint) (status : Status)
-    → LeavesOver (NothingAsked opener air report) (Resumes path files fold opener air report) text left status → described text ≡ Came (Ok mux) lines → file_at path files ≡ Some bytes → checkpoint_of mux bytes ≡ Ok cp → IsOfResume status
+resume_completes : (limit : ℕ) (path : List ℕ) (files : Files) (fold : Bool) (opener : OpenerAsked) (air report : ReportTaken) (text : List ℕ) (left : Option (List ℕ)) (mux : Mux) (lines : Ahead) (bytes : List ℕ) (cp : Checkpoint) (status : Status)
+    → LeavesOver limit (NothingAsked opener air report) (Resumes path files fold opener air report) text left status → described_within limit text ≡ Came (Ok mux) lines → file_at path files ≡ Some bytes → checkpoint_of mux bytes ≡ Ok cp → IsOfResume status
     → (status ≡ ReadFault Input → ⊥) → ((n : ℕ) → status ≡ OpenFault n → ⊥) → (status ≡ ReadFault Recording → ⊥) → (status ≡ WriteFault Air → ⊥) → (status ≡ WriteFault Report → ⊥)
     → Completes (course_on cp lines).1 status
-resume_completes path files fold opener air report text left mux lines bytes cp (ReadFault Input) over is file reads known no_input no_opening no_reading no_air no_report = absurd (no_input refl)
-resume_completes path files fold opener air report text left mux lines bytes cp (ReadFault (Feed f)) over is file reads known no_input no_opening no_reading no_air no_report = absurd known
-resume_completes path files fold opener air report text left mux lines bytes cp (ReadFault Recording) over is file reads known no_input no_opening no_reading no_air no_report = absurd (no_reading refl)
-resume_completes path files fold opener air report text left mux lines bytes cp Memory over is file reads known no_input no_opening no_reading no_air no_report = tt
-resume_completes path files fold opener air report text left mux lines bytes cp other over is file reads known no_input no_opening no_reading no_air no_report =
-    decides path files fold air report mux lines bytes cp other file reads (by_found path files fold opener air report (described text) mux lines other is over) known no_input no_opening no_reading no_air no_report
+resume_completes limit path files fold opener air report text left mux lines bytes cp (ReadFault Input) over is file reads known no_input no_opening no_reading no_air no_report = absurd (no_input refl)
+resume_completes limit path files fold opener air report text left mux lines bytes cp (ReadFault (Feed f)) over is file reads known no_input no_opening no_reading no_air no_report = absurd known
+resume_completes limit path files fold opener air report text left mux lines bytes cp (ReadFault Recording) over is file reads known no_input no_opening no_reading no_air no_report = absurd (no_reading refl)
+resume_completes limit path files fold opener air report text left mux lines bytes cp Memory over is file reads known no_input no_opening no_reading no_air no_report = tt
+resume_completes limit path files fold opener air report text left mux lines bytes cp other over is file reads known no_input no_opening no_reading no_air no_report =
+    decides path files fold air report mux lines bytes cp other file reads (by_found path files fold opener air report (described_within limit text) mux lines other is over) known no_input no_opening no_reading no_air no_report
 
 resume_no_report : (met : Status) → IsMetByResume met → met ≡ WriteFault Report → ⊥
 resume_no_report met is e = subst IsMetByResume e is
@@ -434,16 +433,16 @@ resume_asked path old new fold played report status asked finished = by (finishe
     by (inr (inl is)) = subst (HasAskedFor path old new) (sym is) asked
     by (inr (inr (done, is, rose))) = asked_report path old new played.met status done is asked
 
-pub resume_run : (path : List ℕ) (fold : Bool) (opener : OpenerAsked) (input : SourceGave) (air report : ReportTaken) (played : Played) (status : Status)
+pub resume_run : (limit : ℕ) (path : List ℕ) (fold : Bool) (opener : OpenerAsked) (input : SourceGave) (air report : ReportTaken) (played : Played) (status : Status)
     → ((text : List ℕ) → input.old ≡ Some text → (files : Files) → opener.files ≡ Some files
-    → PlayedResumed path files text input.new opener.tried_old opener.tried_new air.old air.new played)
+    → PlayedResumed limit path files text input.new opener.tried_old opener.tried_new air.old air.new played)
     → IsMetByResume played.met → HasAskedFor path opener.tried_old opener.tried_new played.met → (played.met ≡ Done → IsAtEnd input.new)
     → (played.met ≡ ReadFault Input → Rose input.faults_old input.faults_new) → ((n : ℕ) → played.met ≡ OpenFault n → Rose opener.faults_old opener.faults_new)
     → (played.met ≡ ReadFault Recording → Rose opener.read_old opener.read_new) → (played.met ≡ WriteFault Air → Rose air.faults_old air.faults_new)
-    → Finished fold played report status → ResumeRun path fold opener input air report status
-resume_run path fold opener input air report played status over known asked end input_rose open_rose read_rose air_rose finished =
+    → Finished fold played report status → ResumeRunWithin limit path fold opener input air report status
+resume_run limit path fold opener input air report played status over known asked end input_rose open_rose read_rose air_rose finished =
     let leaves = λ (text : List ℕ) (tells : input.old ≡ Some text) (files : Files) (has : opener.files ≡ Some files).
-    ended_over fold report played (λ met. (opener.tried_new ≡ opener.tried_old) × NotPlayed air.old air.new played) (NothingAsked opener air report)
+    ended_over limit fold report played (λ met. (opener.tried_new ≡ opener.tried_old) × NotPlayed air.old air.new played) (NothingAsked opener air report)
     (λ mux lines met. Tries opener.tried_old opener.tried_new path × BegunFrom path files air.old air.new played mux lines met)
     (Resumes path files fold opener air report)
     (λ met idle. (idle.1.no_course, λ took. (idle.0, nothing_of air report met idle.1.air took)))
@@ -458,7 +457,7 @@ resume_run path fold opener input air report played status over known asked end 
     record {
       leaves = leaves;
       completes = λ text tells files has free mux lines is bytes file cp reads.
-          resume_completes path files fold opener air report text input.new mux lines bytes cp status (leaves text tells files has) is file reads is_known (λ e. free.no_input (input_cause e))
+          resume_completes limit path files fold opener air report text input.new mux lines bytes cp status (leaves text tells files has) is file reads is_known (λ e. free.no_input (input_cause e))
           (λ n e. free.no_opening (open_cause n e)) (λ e. free.no_reading (read_cause e)) (λ e. free.no_air (air_cause e)) (λ e. free.no_report (report_cause e));
       known = is_known;
       asked_for = resume_asked path opener.tried_old opener.tried_new fold played report status asked finished;
@@ -470,9 +469,9 @@ resume_run path fold opener input air report played status over known asked end 
       report_cause = report_cause;
     }
 
-pub resume_memory : (path : List ℕ) (fold : Bool) (opener : OpenerAsked) (input : SourceGave) (air report : ReportTaken) (status : Status) → status ≡ Memory → opener.tried_new ≡ opener.tried_old
-    → ResumeRun path fold opener input air report status
-resume_memory path fold opener input air report status e same = subst (ResumeRun path fold opener input air report) (sym e) (record {
+pub resume_memory : (limit : ℕ) (path : List ℕ) (fold : Bool) (opener : OpenerAsked) (input : SourceGave) (air report : ReportTaken) (status : Status) → status ≡ Memory → opener.tried_new ≡ opener.tried_old
+    → ResumeRunWithin limit path fold opener input air report status
+resume_memory limit path fold opener input air report status e same = subst (ResumeRunWithin limit path fold opener input air report) (sym e) (record {
   leaves = λ text tells files has. tt;
   completes = λ text tells files has free mux lines is bytes file cp reads. tt;
   known = tt;

@@ -4,7 +4,7 @@ use Rattle.std.specs.Prelude.{Option, Some, None, Ok, Err, false}
 use Rattle.std.specs.Io.KnownBytes.{Appends}
 use Rattle.si_causes.specs.Causes.{AppendsFront}
 use Rattle.si_causes.specs.declared.stop.ReadStop.TheVariants.{Failed, TooLong as Overlong}
-use Rattle.si_causes.specs.Text.{text_lines}
+use Rattle.si_causes.specs.Text.{lines_left}
 use Rattle.input_lines.specs.Ahead.{Ahead, Breaks, Came, Found, Stopped}
 use Rattle.input_lines.specs.Ahead as lines
 use Rattle.input_lines.specs.Going.{shown_whole}
@@ -16,7 +16,7 @@ use Rattle.mux_model.specs.declared.mux.Mux.{Mux}
 use Rattle.mux_config.specs.declared.fault.Word.TheVariants.{End}
 use Rattle.mux_config.specs.declared.fault.MuxFault.TheVariants.{Missing}
 use Rattle.mux_config.specs.Descriptions.{Description}
-use Rattle.mux_config.specs.Texts.{described, described_taken}
+use Rattle.mux_config.specs.Texts.{described_taken}
 use Rattle.journal_model.specs.declared.step.Entry.{Entry}
 use Rattle.journal_text.specs.Entries.{journal_text}
 use Rattle.journal_air.specs.Air.{airings}
@@ -29,11 +29,11 @@ use Rattle.epg_report.specs.Rates.{rate_line}
 use Rattle.epg_report.specs.Texts.{fault_text, fault_line, fault_lines}
 use Rattle.epg_report.specs.Told.{ReportTaken, Reported, SourceGave}
 use Rattle.epg_play.specs.declared.stop.PlayStop.TheVariants.{NoMux as Undescribed, NoCommand as Refused, Disagrees as Differs, Read, Air as OnAir}
-use Rattle.epg_play.specs.Script.{Script, Stop, NoMux, NoCommand, Disagreed, TooLong, Unread, no_mux, script_in, script_taken, script_with}
-use Rattle.epg_play.specs.Leaves.{IsAired, IsAiredFront, IsOfPlay, IsSent, Leaves, LeavesAll, LeavesCut, LeavesDone, LeavesUnreported, PlayRun, first_journal, report_text, stop_text, whole_journal}
+use Rattle.epg_play.specs.Script.{Script, Stop, NoMux, NoCommand, Disagreed, TooLong, Unread, no_mux, script_taken, script_with, script_within}
+use Rattle.epg_play.specs.Leaves.{IsAired, IsAiredFront, IsOfPlay, IsSent, Leaves, LeavesAll, LeavesCut, LeavesDone, LeavesUnreported, PlayRunWithin, first_journal, report_text, stop_text, whole_journal}
 use Rattle.epg_play.specs.Behind.{AirOn, CutAirOn, CutOn, LeavesBehind, StoppedOn, new_text, played_behind}
 use Rattle.epg_play.specs.CheckpointRuns.{Nothing}
-use Rattle.epg_play.specs.Over.{LeavesBy, LeavesOver}
+use Rattle.epg_play.specs.Over.{LeavesBy, LeavesOver, described_within}
 use Rattle.epg_play.proofs.CourseRuns.{NewRun, new_memory}
 use Rattle.epg_play.proofs.RunFacts.{tail_in, text_sent, whole}
 use Rattle.epg_play.proofs.SentFacts.{cut_sent, whole_sent}
@@ -163,39 +163,39 @@ module _ (air report : ReportTaken) where
   leaves_by (Stopped lines.Unread) status known sends (is, idle) =
       subst (LeavesOf (no_mux Unread)) (sym is) (idle_leaves Unread (ReadFault Input) refl (subst (Nothing air report) is idle))
 
-  sends_in : (text : List ℕ) → Sends (script_in text)
-  sends_in text = record { all = text_sent text air; cut = λ k is. cut_sent (text_lines text).0 (tail_in text) air k is }
+  sends_in : (limit : ℕ) (text : List ℕ) → Sends (script_within limit text)
+  sends_in limit text = record { all = text_sent limit text air; cut = λ k is. cut_sent (lines_left limit text).0 (tail_in limit text) air k is }
 
   sends_taken : (taken : List ℕ) → Sends (script_taken taken)
   sends_taken taken = record { all = whole_sent (shown_whole taken) Breaks air; cut = λ k is. cut_sent (shown_whole taken) Breaks air k is }
 
-  text_leaves : (text : List ℕ) (left : Option (List ℕ)) (status : Status) → IsOfPlay status → LeavesOver (Nothing air report) (λ mux. LeavesBehind false mux [] [] air report) text left status → Leaves text left air report status
-  text_leaves text left (ReadFault Input) known over = record {
+  text_leaves : (limit : ℕ) (text : List ℕ) (left : Option (List ℕ)) (status : Status) → IsOfPlay status → LeavesOver limit (Nothing air report) (λ mux. LeavesBehind false mux [] [] air report) text left status → Leaves limit text left air report status
+  text_leaves limit text left (ReadFault Input) known over = record {
     taken = over.taken;
     behind = over.rest;
     text_is = over.text_is;
     left_is = over.left_is;
     leaves = leaves_by (described_taken over.taken) (ReadFault Input) known (sends_taken over.taken) over.leaves;
   }
-  text_leaves text left Memory known over = tt
-  text_leaves text left Done known over = leaves_by (described text) Done known (sends_in text) over
-  text_leaves text left (BadMux fault) known over = leaves_by (described text) (BadMux fault) known (sends_in text) over
-  text_leaves text left (BadScript n) known over = leaves_by (described text) (BadScript n) known (sends_in text) over
-  text_leaves text left (Disagrees n kept found) known over = leaves_by (described text) (Disagrees n kept found) known (sends_in text) over
-  text_leaves text left (PastLimit Input) known over = leaves_by (described text) (PastLimit Input) known (sends_in text) over
-  text_leaves text left (PastLimit (Feed f)) known over = absurd known
-  text_leaves text left (PastLimit Recording) known over = absurd known
-  text_leaves text left (ReadFault (Feed f)) known over = absurd known
-  text_leaves text left (ReadFault Recording) known over = absurd known
-  text_leaves text left (WriteFault Air) known over = leaves_by (described text) (WriteFault Air) known (sends_in text) over
-  text_leaves text left (WriteFault Report) known over = leaves_by (described text) (WriteFault Report) known (sends_in text) over
-  text_leaves text left other known over = absurd known
+  text_leaves limit text left Memory known over = tt
+  text_leaves limit text left Done known over = leaves_by (described_within limit text) Done known (sends_in limit text) over
+  text_leaves limit text left (BadMux fault) known over = leaves_by (described_within limit text) (BadMux fault) known (sends_in limit text) over
+  text_leaves limit text left (BadScript n) known over = leaves_by (described_within limit text) (BadScript n) known (sends_in limit text) over
+  text_leaves limit text left (Disagrees n kept found) known over = leaves_by (described_within limit text) (Disagrees n kept found) known (sends_in limit text) over
+  text_leaves limit text left (PastLimit Input) known over = leaves_by (described_within limit text) (PastLimit Input) known (sends_in limit text) over
+  text_leaves limit text left (PastLimit (Feed f)) known over = absurd known
+  text_leaves limit text left (PastLimit Recording) known over = absurd known
+  text_leaves limit text left (ReadFault (Feed f)) known over = absurd known
+  text_leaves limit text left (ReadFault Recording) known over = absurd known
+  text_leaves limit text left (WriteFault Air) known over = leaves_by (described_within limit text) (WriteFault Air) known (sends_in limit text) over
+  text_leaves limit text left (WriteFault Report) known over = leaves_by (described_within limit text) (WriteFault Report) known (sends_in limit text) over
+  text_leaves limit text left other known over = absurd known
 
-pub play_run : (input : SourceGave) (air report : ReportTaken) (status : Status) → NewRun false input air report status → PlayRun input air report status
-play_run input air report status run = record {
-  leaves = λ text tells. text_leaves air report text input.new status run.known (run.leaves text tells);
+pub play_run : (limit : ℕ) (input : SourceGave) (air report : ReportTaken) (status : Status) → NewRun limit false input air report status → PlayRunWithin limit input air report status
+play_run limit input air report status run = record {
+  leaves = λ text tells. text_leaves air report limit text input.new status run.known (run.leaves text tells);
   completes = run.completes;
-  whole = λ text tells ended no_input no_air no_report. whole (script_in text).stop status ended (run.completes text tells no_input no_air no_report);
+  whole = λ text tells ended no_input no_air no_report. whole (script_within limit text).stop status ended (run.completes text tells no_input no_air no_report);
   known = run.known;
   end = run.end;
   input_cause = run.input_cause;
@@ -204,5 +204,5 @@ play_run input air report status run = record {
 }
 
 -- where memory was wanting before any line was read
-pub play_memory : (input : SourceGave) (air report : ReportTaken) (status : Status) → status ≡ Memory → PlayRun input air report status
-play_memory input air report status e = play_run input air report status (new_memory false input air report status e)
+pub play_memory : (limit : ℕ) (input : SourceGave) (air report : ReportTaken) (status : Status) → status ≡ Memory → PlayRunWithin limit input air report status
+play_memory limit input air report status e = play_run limit input air report status (new_memory limit false input air report status e)

@@ -5,7 +5,7 @@ use Rattle.std.specs.Io.KnownBytes.{Consumes}
 use Rattle.si_causes.specs.Reading.{Reading, fresh as unread}
 use Rattle.si_causes.proofs.TextFacts.{fresh_text}
 use Rattle.si_causes.specs.declared.stop.ReadStop.TheVariants.{Failed, TooLong as Overlong}
-use Rattle.si_causes.specs.Text.{text_lines}
+use Rattle.si_causes.specs.Text.{lines_left}
 use Rattle.input_lines.specs.Going.{WereWhole}
 use Rattle.input_lines.proofs.Steps.{whole_more}
 use Rattle.mux_config.specs.declared.fault.Word.TheVariants.{End}
@@ -29,7 +29,7 @@ use Rattle.epg_play.specs.declared.stop.PlayStop.TheVariants.{NoMux as Undescrib
 use Rattle.epg_report.specs.declared.status.Status.{Status}
 use Rattle.epg_report.specs.declared.status.Status.TheVariants.{Done, BadScript, Disagrees, BadMux, TooLong as PastLimit, Memory}
 use Rattle.epg_report.specs.declared.status.Origin.TheVariants.{Input, Feed, Recording}
-use Rattle.epg_play.specs.Script.{Script, Stop, commands_of, first_difference, played_items, stop_of, up_to, Ended, NoMux, NoCommand, Disagreed, TooLong, Unread, no_mux, script_in, script_taken, script_with, with_commands}
+use Rattle.epg_play.specs.Script.{Script, Stop, commands_of, first_difference, played_items, stop_of, up_to, Ended, NoMux, NoCommand, Disagreed, TooLong, Unread, no_mux, script_in, script_taken, script_with, script_within, with_commands}
 use Rattle.journal_model.specs.declared.step.Outcome.{Outcome}
 use Rattle.journal_model.specs.declared.step.Outcome.TheVariants.{Edited, Ticked, Late, Published, Swapped}
 use Rattle.checkpoint_laws.specs.Going.{all_raised, raised}
@@ -92,11 +92,11 @@ bytes_left (Some behind) text taken h = (behind, h, refl)
 -- ---- the run is over
 
 -- what was sent of the script of a text
-abbrev pub tail_in : List ℕ → Tail
-tail_in text = tail_of (1 + length (text_lines text).0) (text_lines text).1
+abbrev pub tail_in : ℕ → List ℕ → Tail
+tail_in limit text = tail_of (1 + length (lines_left limit text).0) (lines_left limit text).1
 
-pub text_sent : (text : List ℕ) (air : ReportTaken) → IsAired (script_in text).mux (whole_journal (script_in text)) air → IsSent (script_in text).mux (whole_journal (script_in text)) air
-text_sent text air is = whole_sent (text_lines text).0 (tail_in text) air is
+pub text_sent : (limit : ℕ) (text : List ℕ) (air : ReportTaken) → IsAired (script_within limit text).mux (whole_journal (script_within limit text)) air → IsSent (script_within limit text).mux (whole_journal (script_within limit text)) air
+text_sent limit text air is = whole_sent (lines_left limit text).0 (tail_in limit text) air is
 
 -- a script that is whole is played to its end where nothing fails
 pub whole : (stop : Stop) (status : Status) → stop ≡ Ended → Completes stop status → (status ≡ Done) ⊎ (status ≡ Memory)

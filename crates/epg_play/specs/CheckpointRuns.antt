@@ -3,10 +3,10 @@ use Rattle.std.specs.Prelude.{◌≡◌, ◌≤◌, ℕ, List, [], length, Bool,
 use Rattle.std.specs.Io.KnownBytes.{Appends, IsAtEnd}
 use Rattle.si_causes.specs.Causes.{Rose}
 use Rattle.si_causes.specs.Opening.{Files, Tries, file_at}
+use Rattle.si_causes.specs.Text.{text_limit}
 use Rattle.input_lines.specs.Ahead.{Ahead, Came, NoCommand as NoLine, TooLong as Overlong}
 use Rattle.air_model.specs.Air.{Aired}
 use Rattle.mux_model.specs.declared.mux.Mux.{Mux}
-use Rattle.mux_config.specs.Texts.{described}
 use Rattle.journal_model.specs.declared.step.Entry.{Entry}
 use Rattle.journal_model.specs.Steps.{Command}
 use Rattle.checkpoint_laws.specs.Steps.{shift_of}
@@ -20,9 +20,9 @@ use Rattle.epg_report.specs.Texts.{fault_lines}
 use Rattle.epg_report.specs.Told.{OpenerAsked, ReportTaken, Reported, SourceGave, asked, gave, told}
 use Rattle.epg_play.specs.Leaves.{Completes, IsOfPlay}
 use Rattle.epg_play.specs.Played.{course}
-use Rattle.epg_play.specs.Script.{Stop, Ended, Unread, script_in}
+use Rattle.epg_play.specs.Script.{Stop, Ended, Unread, script_within}
 use Rattle.epg_play.specs.Checkpointed.{HasRun, IsCheckpoint, checkpoint_limit, checkpoint_of}
-use Rattle.epg_play.specs.Over.{LeavesOver}
+use Rattle.epg_play.specs.Over.{LeavesOver, described_within}
 use Rattle.epg_play.specs.Beginning.{IsOfResume}
 use Rattle.epg_play.specs.Behind.{LeavesBehind}
 
@@ -32,14 +32,14 @@ Nothing air report status = Appends air.old air.new [] × Reported report (fault
 
 -- ---- `play --fold`
 
--- A run of `play --fold`: what its input gave, what its air and its report took, and its status.
-pub record FoldRun (input : SourceGave) (air report : ReportTaken) (status : Status) : Type 0 where
+-- A run of `play --fold` whose script may have so many bytes: what its input gave, what its air and its report took, and its status.
+pub record FoldRunWithin (limit : ℕ) (input : SourceGave) (air report : ReportTaken) (status : Status) : Type 0 where
   -- what is left with each status, behind the journal without an entry; with Done the report is the checkpoint
   pub leaves : (text : List ℕ) → input.old ≡ Some text
-      → LeavesOver (Nothing air report) (λ mux. LeavesBehind true mux [] [] air report) text input.new status
+      → LeavesOver limit (Nothing air report) (λ mux. LeavesBehind true mux [] [] air report) text input.new status
   -- where neither the input nor a sink fails, the script decides the status, but for want of memory
   pub completes : (text : List ℕ) → input.old ≡ Some text → ¬ (Rose input.faults_old input.faults_new) → ¬ (Rose air.faults_old air.faults_new)
-      → ¬ (Rose report.faults_old report.faults_new) → Completes (script_in text).stop status
+      → ¬ (Rose report.faults_old report.faults_new) → Completes (script_within limit text).stop status
   -- no other status comes
   pub known : IsOfPlay status
   -- with Done the input was read to its end
@@ -48,6 +48,10 @@ pub record FoldRun (input : SourceGave) (air report : ReportTaken) (status : Sta
   pub input_cause : status ≡ ReadFault Input → Rose input.faults_old input.faults_new
   pub air_cause : status ≡ WriteFault Air → Rose air.faults_old air.faults_new
   pub report_cause : status ≡ WriteFault Report → Rose report.faults_old report.faults_new
+
+-- a run with the limit of a text
+abbrev pub FoldRun : SourceGave → ReportTaken → ReportTaken → Status → Type 0
+FoldRun = FoldRunWithin text_limit
 
 -- ---- `play --resume`
 
@@ -95,15 +99,15 @@ pub record IsUnhindered (opener : OpenerAsked) (input : SourceGave) (air report 
   pub no_air : ¬ (Rose air.faults_old air.faults_new)
   pub no_report : ¬ (Rose report.faults_old report.faults_new)
 
--- A run of `play --resume` from the file of this path, with `--fold` or without: what its opener was asked, what its input gave, what its
--- air and its report took, and its status.
-pub record ResumeRun (path : List ℕ) (fold : Bool) (opener : OpenerAsked) (input : SourceGave) (air report : ReportTaken) (status : Status) : Type 0 where
+-- A run of `play --resume` from the file of this path, with `--fold` or without, whose script may have so many bytes: what its opener was
+-- asked, what its input gave, what its air and its report took, and its status.
+pub record ResumeRunWithin (limit : ℕ) (path : List ℕ) (fold : Bool) (opener : OpenerAsked) (input : SourceGave) (air report : ReportTaken) (status : Status) : Type 0 where
   -- what is left with each status
   pub leaves : (text : List ℕ) → input.old ≡ Some text → (files : Files) → opener.files ≡ Some files
-      → LeavesOver (NothingAsked opener air report) (Resumes path files fold opener air report) text input.new status
+      → LeavesOver limit (NothingAsked opener air report) (Resumes path files fold opener air report) text input.new status
   -- where nothing fails and the file holds a checkpoint, the script on it decides the status, but for want of memory
   pub completes : (text : List ℕ) → input.old ≡ Some text → (files : Files) → opener.files ≡ Some files → IsUnhindered opener input air report
-      → (mux : Mux) (lines : Ahead) → described text ≡ Came (Ok mux) lines → (bytes : List ℕ) → file_at path files ≡ Some bytes
+      → (mux : Mux) (lines : Ahead) → described_within limit text ≡ Came (Ok mux) lines → (bytes : List ℕ) → file_at path files ≡ Some bytes
       → (cp : Checkpoint) → checkpoint_of mux bytes ≡ Ok cp → Completes (course_on cp lines).1 status
   -- no other status comes
   pub known : IsOfResume status
@@ -118,17 +122,31 @@ pub record ResumeRun (path : List ℕ) (fold : Bool) (opener : OpenerAsked) (inp
   pub air_cause : status ≡ WriteFault Air → Rose air.faults_old air.faults_new
   pub report_cause : status ≡ WriteFault Report → Rose report.faults_old report.faults_new
 
+-- a run with the limit of a text
+abbrev pub ResumeRun : List ℕ → Bool → OpenerAsked → SourceGave → ReportTaken → ReportTaken → Status → Type 0
+ResumeRun = ResumeRunWithin text_limit
+
 -- ---- of a call
 
 -- So a call ran with this input, this air and this report: of each what tells its bytes and its faults, and how it was before and behind.
+abbrev pub FoldRanWithin : {S A R : Type 0} → ℕ → (S → Option (List ℕ)) → (S → ℕ) → S → S → (A → Option (List ℕ)) → (A → ℕ) → A → A
+    → (R → Option (List ℕ)) → (R → ℕ) → R → R → Status → Type 0
+FoldRanWithin limit left read_faults input input_then sent air_faults air air_then taken report_faults report report_then status =
+    FoldRunWithin limit (gave left read_faults input input_then) (told sent air_faults air air_then) (told taken report_faults report report_then) status
+
 abbrev pub FoldRan : {S A R : Type 0} → (S → Option (List ℕ)) → (S → ℕ) → S → S → (A → Option (List ℕ)) → (A → ℕ) → A → A
     → (R → Option (List ℕ)) → (R → ℕ) → R → R → Status → Type 0
 FoldRan left read_faults input input_then sent air_faults air air_then taken report_faults report report_then status =
-    FoldRun (gave left read_faults input input_then) (told sent air_faults air air_then) (told taken report_faults report report_then) status
+    FoldRanWithin text_limit left read_faults input input_then sent air_faults air air_then taken report_faults report report_then status
 
 -- and with this opener
+abbrev pub ResumeRanWithin : {O S A R : Type 0} → ℕ → List ℕ → Bool → (O → Option Files) → (O → Option (List (List ℕ))) → (O → ℕ) → (O → ℕ) → O → O
+    → (S → Option (List ℕ)) → (S → ℕ) → S → S → (A → Option (List ℕ)) → (A → ℕ) → A → A → (R → Option (List ℕ)) → (R → ℕ) → R → R → Status → Type 0
+ResumeRanWithin limit path fold files tried open_faults file_faults opener opener_then left read_faults input input_then sent air_faults air air_then taken report_faults report report_then status =
+    ResumeRunWithin limit path fold (asked files tried open_faults file_faults opener opener_then) (gave left read_faults input input_then)
+    (told sent air_faults air air_then) (told taken report_faults report report_then) status
+
 abbrev pub ResumeRan : {O S A R : Type 0} → List ℕ → Bool → (O → Option Files) → (O → Option (List (List ℕ))) → (O → ℕ) → (O → ℕ) → O → O
     → (S → Option (List ℕ)) → (S → ℕ) → S → S → (A → Option (List ℕ)) → (A → ℕ) → A → A → (R → Option (List ℕ)) → (R → ℕ) → R → R → Status → Type 0
 ResumeRan path fold files tried open_faults file_faults opener opener_then left read_faults input input_then sent air_faults air air_then taken report_faults report report_then status =
-    ResumeRun path fold (asked files tried open_faults file_faults opener opener_then) (gave left read_faults input input_then)
-    (told sent air_faults air air_then) (told taken report_faults report report_then) status
+    ResumeRanWithin text_limit path fold files tried open_faults file_faults opener opener_then left read_faults input input_then sent air_faults air air_then taken report_faults report report_then status

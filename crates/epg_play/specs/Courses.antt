@@ -91,10 +91,10 @@ pub record HasPlayedOn {S : Type 0} (left : S → Option (List ℕ)) (old new : 
   pub tallied : IsPlayerOf start.desk.mux start.player → HasTallied start.desk start.player
       → TalliedTo behind.end.desk behind.end.player stop
 
--- what was played of a text, from a head-end that did nothing yet
-abbrev pub PlayedNew : List ℕ → Option (List ℕ) → Option (List ℕ) → Option (List ℕ) → Played → Type 0
-PlayedNew text left before now played =
-    LeavesOver (λ met. NotPlayed before now played) (λ mux lines met. CourseBehind (IsNew mux) before now played lines) text left played.met
+-- what was played of a text of which so many bytes may be taken, from a head-end that did nothing yet
+abbrev pub PlayedNew : ℕ → List ℕ → Option (List ℕ) → Option (List ℕ) → Option (List ℕ) → Played → Type 0
+PlayedNew limit text left before now played =
+    LeavesOver limit (λ met. NotPlayed before now played) (λ mux lines met. CourseBehind (IsNew mux) before now played lines) text left played.met
 
 -- what was begun from the file at a path, for a multiplex
 pub record BeganAt (path : List ℕ) (files : Files) (mux : Mux) (start : Start) : Type 0 where
@@ -107,9 +107,9 @@ BegunFrom path files before now played mux lines met =
     (BeginsAt path files mux (Err met) × IsNotBegun met × NotPlayed before now played) ⊎ CourseBehind (BeganAt path files mux) before now played lines
 
 -- and what was played of a text, from there on: an opener was asked for the path once a multiplex was described
-abbrev pub PlayedResumed : List ℕ → Files → List ℕ → Option (List ℕ) → Option (List (List ℕ)) → Option (List (List ℕ)) → Option (List ℕ) → Option (List ℕ) → Played → Type 0
-PlayedResumed path files text left tried_before tried_now before now played =
-    LeavesOver (λ met. (tried_now ≡ tried_before) × NotPlayed before now played)
+abbrev pub PlayedResumed : ℕ → List ℕ → Files → List ℕ → Option (List ℕ) → Option (List (List ℕ)) → Option (List (List ℕ)) → Option (List ℕ) → Option (List ℕ) → Played → Type 0
+PlayedResumed limit path files text left tried_before tried_now before now played =
+    LeavesOver limit (λ met. (tried_now ≡ tried_before) × NotPlayed before now played)
     (λ mux lines met. Tries tried_before tried_now path × BegunFrom path files before now played mux lines met)
     text left played.met
 

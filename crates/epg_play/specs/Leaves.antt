@@ -2,6 +2,7 @@
 use Rattle.std.specs.Prelude.{◌≡◌, ◌⊎◌, ℕ, List, [], ◌∷◌, ◌++◌, take, Option, Some, None}
 use Rattle.std.specs.Io.KnownBytes.{Appends, IsAtEnd}
 use Rattle.si_causes.specs.Causes.{Rose, AppendsFront}
+use Rattle.si_causes.specs.Text.{text_limit}
 use Rattle.si_causes.specs.declared.stop.ReadStop.TheVariants.{Failed, TooLong as Overlong}
 use Rattle.mux_model.specs.declared.mux.Mux.{Mux}
 use Rattle.mux_config.specs.declared.stop.MuxStop.{MuxStop}
@@ -19,7 +20,7 @@ use Rattle.epg_report.specs.declared.status.Status.{Status}
 use Rattle.epg_report.specs.declared.status.Status.TheVariants.{Done, BadScript, Disagrees, BadMux, TooLong as PastLimit, ReadFault, WriteFault, Memory}
 use Rattle.epg_report.specs.declared.status.Origin.TheVariants.{Input}
 use Rattle.epg_report.specs.declared.status.Outlet.TheVariants.{Air, Report}
-use Rattle.epg_play.specs.Script.{Script, Stop, Ended, NoMux, NoCommand, Disagreed, TooLong, Unread, script_in, script_taken}
+use Rattle.epg_play.specs.Script.{Script, Stop, Ended, NoMux, NoCommand, Disagreed, TooLong, Unread, script_taken, script_within}
 use Rattle.epg_report.specs.Rates.{rate_lines}
 use Rattle.epg_report.specs.Texts.{fault_line, fault_text}
 use Rattle.epg_report.specs.Told.{ReportTaken, Reported, SourceGave, gave, told}
@@ -144,18 +145,19 @@ pub record LeavesUnreported (script : Script) (air report : ReportTaken) : Type 
   pub sent : IsSent script.mux (whole_journal script) air
   pub report_is : AppendsFront report.old report.new (whole_report script)
 
--- What a run of `play` leaves with each status, of a text, and of what is left of it. No other status comes.
-abbrev pub Leaves : List ℕ → Option (List ℕ) → ReportTaken → ReportTaken → Status → Type 0
-Leaves text left air report Done = LeavesDone (script_in text) air report
-Leaves text left air report (BadMux fault) = LeavesAll (script_in text) (NoMux fault) (stop_text (Undescribed fault)) air report
-Leaves text left air report (BadScript n) = LeavesAll (script_in text) (NoCommand n) (stop_text (Refused n)) air report
-Leaves text left air report (Disagrees n kept found) = LeavesAll (script_in text) (Disagreed n kept found) (stop_text (Differs n kept found)) air report
-Leaves text left air report (PastLimit Input) = LeavesAll (script_in text) TooLong (stop_text (Read Overlong)) air report
-Leaves text left air report (ReadFault Input) = LeavesUnread text left air report
-Leaves text left air report (WriteFault Air) = LeavesCut (script_in text) (stop_text OnAir) air report
-Leaves text left air report (WriteFault Report) = LeavesUnreported (script_in text) air report
-Leaves text left air report Memory = Unit {0}
-Leaves text left air report status = ⊥
+-- What a run of `play` leaves with each status, of a text of which so many bytes may be taken, and of
+-- what is left of it. No other status comes.
+abbrev pub Leaves : ℕ → List ℕ → Option (List ℕ) → ReportTaken → ReportTaken → Status → Type 0
+Leaves limit text left air report Done = LeavesDone (script_within limit text) air report
+Leaves limit text left air report (BadMux fault) = LeavesAll (script_within limit text) (NoMux fault) (stop_text (Undescribed fault)) air report
+Leaves limit text left air report (BadScript n) = LeavesAll (script_within limit text) (NoCommand n) (stop_text (Refused n)) air report
+Leaves limit text left air report (Disagrees n kept found) = LeavesAll (script_within limit text) (Disagreed n kept found) (stop_text (Differs n kept found)) air report
+Leaves limit text left air report (PastLimit Input) = LeavesAll (script_within limit text) TooLong (stop_text (Read Overlong)) air report
+Leaves limit text left air report (ReadFault Input) = LeavesUnread text left air report
+Leaves limit text left air report (WriteFault Air) = LeavesCut (script_within limit text) (stop_text OnAir) air report
+Leaves limit text left air report (WriteFault Report) = LeavesUnreported (script_within limit text) air report
+Leaves limit text left air report Memory = Unit {0}
+Leaves limit text left air report status = ⊥
 
 -- the statuses of `play`
 abbrev pub IsOfPlay : Status → Type 0
@@ -179,15 +181,15 @@ Completes stop (PastLimit Input) = stop ≡ TooLong
 Completes stop Memory = Unit {0}
 Completes stop status = ⊥
 
--- A run of `play`: what its input gave, what its air and its report took, and its status.
-pub record PlayRun (input : SourceGave) (air report : ReportTaken) (status : Status) : Type 0 where
+-- A run of `play` whose script may have so many bytes: what its input gave, what its air and its report took, and its status.
+pub record PlayRunWithin (limit : ℕ) (input : SourceGave) (air report : ReportTaken) (status : Status) : Type 0 where
   -- what is left with each status: the journal that the report has, its air, and how that can be heard
-  pub leaves : (text : List ℕ) → input.old ≡ Some text → Leaves text input.new air report status
+  pub leaves : (text : List ℕ) → input.old ≡ Some text → Leaves limit text input.new air report status
   -- where neither the input nor a sink fails, the script decides the status, but for want of memory
   pub completes : (text : List ℕ) → input.old ≡ Some text → ¬ (Rose input.faults_old input.faults_new) → ¬ (Rose air.faults_old air.faults_new)
-      → ¬ (Rose report.faults_old report.faults_new) → Completes (script_in text).stop status
+      → ¬ (Rose report.faults_old report.faults_new) → Completes (script_within limit text).stop status
   -- and so a script that is whole is played to its end
-  pub whole : (text : List ℕ) → input.old ≡ Some text → (script_in text).stop ≡ Ended → ¬ (Rose input.faults_old input.faults_new)
+  pub whole : (text : List ℕ) → input.old ≡ Some text → (script_within limit text).stop ≡ Ended → ¬ (Rose input.faults_old input.faults_new)
       → ¬ (Rose air.faults_old air.faults_new) → ¬ (Rose report.faults_old report.faults_new) → (status ≡ Done) ⊎ (status ≡ Memory)
   -- no other status comes
   pub known : IsOfPlay status
@@ -198,8 +200,17 @@ pub record PlayRun (input : SourceGave) (air report : ReportTaken) (status : Sta
   pub air_cause : status ≡ WriteFault Air → Rose air.faults_old air.faults_new
   pub report_cause : status ≡ WriteFault Report → Rose report.faults_old report.faults_new
 
+-- a run with the limit of a text
+abbrev pub PlayRun : SourceGave → ReportTaken → ReportTaken → Status → Type 0
+PlayRun = PlayRunWithin text_limit
+
 -- So a call ran with this input, this air and this report: of each what tells its bytes and its faults, and how it was before and behind.
+abbrev pub PlayRanWithin : {S A R : Type 0} → ℕ → (S → Option (List ℕ)) → (S → ℕ) → S → S → (A → Option (List ℕ)) → (A → ℕ) → A → A
+    → (R → Option (List ℕ)) → (R → ℕ) → R → R → Status → Type 0
+PlayRanWithin limit left read_faults input input_then sent air_faults air air_then taken report_faults report report_then status =
+    PlayRunWithin limit (gave left read_faults input input_then) (told sent air_faults air air_then) (told taken report_faults report report_then) status
+
 abbrev pub PlayRan : {S A R : Type 0} → (S → Option (List ℕ)) → (S → ℕ) → S → S → (A → Option (List ℕ)) → (A → ℕ) → A → A
     → (R → Option (List ℕ)) → (R → ℕ) → R → R → Status → Type 0
 PlayRan left read_faults input input_then sent air_faults air air_then taken report_faults report report_then status =
-    PlayRun (gave left read_faults input input_then) (told sent air_faults air air_then) (told taken report_faults report report_then) status
+    PlayRanWithin text_limit left read_faults input input_then sent air_faults air air_then taken report_faults report report_then status

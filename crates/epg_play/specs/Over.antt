@@ -1,12 +1,13 @@
 -- What a run leaves over the text of its input.
 use Rattle.std.specs.Prelude.{◌≡◌, ℕ, List, ◌++◌, Option, Some, Ok, Err}
-use Rattle.input_lines.specs.Ahead.{Ahead, Came, Found, TooLong as Overlong, Unread as Broken}
+use Rattle.si_causes.specs.Text.{lines_left}
+use Rattle.input_lines.specs.Ahead.{Ahead, Came, Found, TooLong as Overlong, Unread as Broken, ahead_in}
 use Rattle.input_lines.specs.Ahead as reading
 use Rattle.mux_model.specs.declared.mux.Mux.{Mux}
 use Rattle.mux_config.specs.declared.fault.Word.TheVariants.{End}
 use Rattle.mux_config.specs.declared.fault.MuxFault.TheVariants.{Missing}
-use Rattle.mux_config.specs.Descriptions.{Description}
-use Rattle.mux_config.specs.Texts.{described, described_taken}
+use Rattle.mux_config.specs.Descriptions.{Description, description_ahead}
+use Rattle.mux_config.specs.Texts.{described_taken}
 use Rattle.epg_report.specs.declared.status.Status.{Status}
 use Rattle.epg_report.specs.declared.status.Status.TheVariants.{BadMux, Memory, ReadFault, TooLong as PastLimit}
 use Rattle.epg_report.specs.declared.status.Origin.TheVariants.{Input}
@@ -31,7 +32,12 @@ pub record LeavesTaken (Idle : Status → Type 0) (Behind : Mux → Ahead → St
   pub left_is : left ≡ Some rest
   pub leaves : LeavesBy Idle Behind (described_taken taken) (ReadFault Input)
 
-abbrev pub LeavesOver : (Status → Type 0) → (Mux → Ahead → Status → Type 0) → List ℕ → Option (List ℕ) → Status → Type 0
-LeavesOver Idle Behind text left (ReadFault Input) = LeavesTaken Idle Behind text left
-LeavesOver Idle Behind text left Memory = Unit {0}
-LeavesOver Idle Behind text left status = LeavesBy Idle Behind (described text) status
+-- the description in a text of which so many bytes may be taken
+abbrev pub described_within : ℕ → List ℕ → Found Description
+described_within limit text = description_ahead (ahead_in 1 (lines_left limit text))
+
+-- what a run leaves over such a text
+abbrev pub LeavesOver : ℕ → (Status → Type 0) → (Mux → Ahead → Status → Type 0) → List ℕ → Option (List ℕ) → Status → Type 0
+LeavesOver limit Idle Behind text left (ReadFault Input) = LeavesTaken Idle Behind text left
+LeavesOver limit Idle Behind text left Memory = Unit {0}
+LeavesOver limit Idle Behind text left status = LeavesBy Idle Behind (described_within limit text) status

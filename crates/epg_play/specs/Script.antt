@@ -1,6 +1,6 @@
 -- The script of lines: the multiplex of their description, the commands behind it, and why no more is played.
-use Rattle.std.specs.Prelude.{ℕ, suc, ◌+◌, false, List, [], ◌∷◌, length, map, take, Option, Some, None, Ok, Err, if◌then◌else◌}
-use Rattle.si_causes.specs.Text.{text_lines}
+use Rattle.std.specs.Prelude.{ℕ, suc, ◌+◌, Bool, true, false, List, [], ◌∷◌, length, map, take, Option, Some, None, Ok, Err, if◌then◌else◌}
+use Rattle.si_causes.specs.Text.{lines_left, text_limit}
 use Rattle.input_lines.specs.Lines.{record_lines}
 use Rattle.input_lines.specs.Going.{shown_whole}
 use Rattle.mux_config.specs.declared.fault.Word.TheVariants as word
@@ -102,9 +102,22 @@ script_with (Stopped stop) = no_mux (short_of stop)
 abbrev pub script_of_lines : List (List ℕ) → Tail → Script
 script_of_lines lines tail = script_with (description_ahead (record { rows = record_lines 1 lines; tail = tail }))
 
+-- how many bytes a long script may have
+abbrev pub long_limit : ℕ
+long_limit = 18446744073709551614
+
+-- how many bytes a script may have that is long, or not
+abbrev pub limit_for : Bool → ℕ
+limit_for false = text_limit
+limit_for true = long_limit
+
+-- the script of a text of which so many bytes may be taken
+abbrev pub script_within : ℕ → List ℕ → Script
+script_within limit text = (let lines = lines_left limit text in script_of_lines lines.0 (tail_of (1 + length lines.0) lines.1))
+
 -- the script of a text
 abbrev pub script_in : List ℕ → Script
-script_in text = (let lines = text_lines text in script_of_lines lines.0 (tail_of (1 + length lines.0) lines.1))
+script_in text = script_within text_limit text
 
 -- the script of the lines that are whole in bytes, behind which a read failed
 abbrev pub script_taken : List ℕ → Script

@@ -25,6 +25,10 @@
 //! step is done. What was sent is coherent, exact and spaced, also where a cycle was cut: with
 //! `--resume` it and the air before it in a row.
 //!
+//! [`run_play_as`] and [`run_resumed_as`] are the same runs of a script that may be long: their
+//! records are `PlayRunWithin`, `FoldRunWithin` and `ResumeRunWithin`, which take the limit of the
+//! script's bytes. Those of a text are `PlayRun`, `FoldRun` and `ResumeRun`.
+//!
 //! Tested by whole runs: how much the air has after a failed write; that a cycle is sent before the
 //! next line is read; scripts cut after each swap, joined again and compared with the whole; refused
 //! checkpoints; files that cannot be opened or read.
@@ -36,6 +40,7 @@
 mod begin;
 mod item;
 mod laws;
+mod limit;
 mod play;
 mod played;
 mod report;
@@ -48,6 +53,7 @@ pub use laws::{
     checkpoints_are_never_refused, journals_play_again, outcomes_are_compared,
     plain_reports_are_journals, play_is_heard, reports_tell_journals,
 };
+pub use limit::{LONG_LIMIT, PlayAs};
 pub use play::play_rest;
-pub use run::{run_folded, run_play, run_resumed};
+pub use run::{run_folded, run_play, run_play_as, run_resumed, run_resumed_as};
 pub use stop::{PlayStop, mux_stop_of, status_of};

@@ -1,16 +1,18 @@
 // Runs of `play`, from a head-end that did nothing yet or from a checkpoint.
-ghost use Rattle.std.specs.Prelude.{◌≡◌, ◌≤◌, ◌<◌, ◌^◌, [], List, ℕ, None, Some, IfSome};
+ghost use Rattle.std.specs.Prelude.{◌≡◌, ◌≤◌, ◌<◌, ◌^◌, [], List, ℕ, None, Some, IfSome, false, true};
 ghost use Rattle.std.specs.Io.KnownBytes.{IsAtEnd};
 ghost use Rattle.si_causes.specs.Causes.{Rose};
 ghost use Rattle.si_causes.specs.Opening.{Files};
-ghost use Rattle.si_causes.specs.Reading.{fresh};
+ghost use Rattle.si_causes.specs.Reading.{fresh_to};
 ghost use Rattle.epg_report.specs.Asked.{HasAskedFor};
 ghost use Rattle.epg_report.specs.Texts.{CanBeSaid};
 ghost use Rattle.epg_play.specs.Courses.{HasPlayedOn, IsCourse, IsMetByResume, IsMetByScript, IsNoDescription, PlayedNew, PlayedResumed, met_by};
-ghost use Rattle.epg_play.specs.CheckpointRuns.{FoldRan, ResumeRan};
-ghost use Rattle.epg_play.specs.Leaves.{PlayRan};
+ghost use Rattle.epg_play.specs.CheckpointRuns.{FoldRan, FoldRanWithin, ResumeRan, ResumeRanWithin};
+ghost use Rattle.epg_play.specs.Leaves.{PlayRan, PlayRanWithin};
+ghost use Rattle.epg_play.specs.Script.{limit_for};
 
 use crate::begin::{new_start, start_at};
+use crate::limit::{PlayAs, script_limit};
 use crate::play::play_rest;
 use crate::played::{Course, Played};
 use crate::report::finish;
@@ -80,9 +82,10 @@ fn play_on<S: Source, A: Sink>(
 
 // Plays the script of an input, from a head-end that did nothing yet.
 fn play_new<S: Source, A: Sink>(alloc: Global, lines: &mut LineReader<S>, air: &mut A) -> Played
-    requires unread { lines.old ≡ fresh lines.old.source }
+    requires unread { lines.old ≡ fresh_to lines.old.limit lines.old.source }
     ensures played { (text : List ℕ) → S.left lines.old.source ≡ Some text
-        → PlayedNew text (S.left lines.new.source) (A.written air.old) (A.written air.new) result }
+        → PlayedNew lines.old.limit text (S.left lines.new.source)
+        (A.written air.old) (A.written air.new) result }
     ensures course { IfSome result.course (IsCourse result.met) }
     ensures said { CanBeSaid result.met }
     ensures known { IsMetByScript result.met }
@@ -111,10 +114,10 @@ fn play_from<O: Opener, S: Source, A: Sink>(
     opener: &mut O,
     air: &mut A,
 ) -> Played
-    requires unread { lines.old ≡ fresh lines.old.source }
+    requires unread { lines.old ≡ fresh_to lines.old.limit lines.old.source }
     ensures played { (text : List ℕ) → S.left lines.old.source ≡ Some text
         → (files : Files) → O.files opener.old ≡ Some files
-        → PlayedResumed path.now files text (S.left lines.new.source)
+        → PlayedResumed lines.old.limit path.now files text (S.left lines.new.source)
         (O.tried opener.old) (O.tried opener.new)
         (A.written air.old) (A.written air.new) result }
     ensures course { IfSome result.course (IsCourse result.met) }
@@ -142,6 +145,31 @@ fn play_from<O: Opener, S: Source, A: Sink>(
     }
 }
 
+/// Plays the script of the input as [`run_play`] does, or with `fold` as [`run_folded`]; a long
+/// script may have 18,446,744,073,709,551,614 bytes.
+pub fn run_play_as<S: Source, A: Sink, R: Sink>(
+    alloc: Global,
+    how: PlayAs,
+    input: &mut S,
+    air: &mut A,
+    report: &mut R,
+) -> Status
+    ensures play { how.fold ≡ false → PlayRanWithin (limit_for how.long)
+        S.left S.faults input.old input.new
+        A.written A.faults air.old air.new R.written R.faults report.old report.new result }
+    ensures fold { how.fold ≡ true → FoldRanWithin (limit_for how.long)
+        S.left S.faults input.old input.new
+        A.written A.faults air.old air.new R.written R.faults report.old report.new result }
+{
+    let limit = script_limit(how.long);
+    let Ok(mut lines) = LineReader::open_to(alloc, &mut *input, limit) else {
+        return out_of_memory(report);
+    };
+    let played = play_new(alloc, &mut lines, air);
+    let _source = lines.close();
+    finish(alloc, &played, how.fold, report)
+}
+
 /// Plays the script of the input: reads its lines and does them one after the other, sends one
 /// cycle to the air after each swap, and reports the journal of all steps done. After it, where the
 /// description has a bit rate, one line says whether the cycles repeat in time what is frequent:
@@ -157,12 +185,11 @@ pub fn run_play<S: Source, A: Sink, R: Sink>(
     ensures run { PlayRan S.left S.faults input.old input.new
         A.written A.faults air.old air.new R.written R.faults report.old report.new result }
 {
-    let Ok(mut lines) = LineReader::open(alloc, &mut *input) else {
-        return out_of_memory(report);
+    let how = PlayAs {
+        fold: false,
+        long: false,
     };
-    let played = play_new(alloc, &mut lines, air);
-    let _source = lines.close();
-    finish(alloc, &played, false, report)
+    run_play_as(alloc, how, input, air, report)
 }
 
 /// `play --fold`: plays the script of the input as [`run_play`] does, but reports the checkpoint of its journal and of
@@ -176,12 +203,36 @@ pub fn run_folded<S: Source, A: Sink, R: Sink>(
     ensures run { FoldRan S.left S.faults input.old input.new
         A.written A.faults air.old air.new R.written R.faults report.old report.new result }
 {
-    let Ok(mut lines) = LineReader::open(alloc, &mut *input) else {
+    let how = PlayAs {
+        fold: true,
+        long: false,
+    };
+    run_play_as(alloc, how, input, air, report)
+}
+
+/// Plays the script of the input from the checkpoint in the file of this path as [`run_resumed`]
+/// does; a long script may have 18,446,744,073,709,551,614 bytes.
+pub fn run_resumed_as<O: Opener, S: Source, A: Sink, R: Sink>(
+    alloc: Global,
+    path: &str,
+    how: PlayAs,
+    opener: &mut O,
+    input: &mut S,
+    air: &mut A,
+    report: &mut R,
+) -> Status
+    ensures run { ResumeRanWithin (limit_for how.long) path.now how.fold
+        O.files O.tried O.faults O.read_faults opener.old opener.new
+        S.left S.faults input.old input.new
+        A.written A.faults air.old air.new R.written R.faults report.old report.new result }
+{
+    let limit = script_limit(how.long);
+    let Ok(mut lines) = LineReader::open_to(alloc, &mut *input, limit) else {
         return out_of_memory(report);
     };
-    let played = play_new(alloc, &mut lines, air);
+    let played = play_from(alloc, &mut lines, path, opener, air);
     let _source = lines.close();
-    finish(alloc, &played, true, report)
+    finish(alloc, &played, how.fold, report)
 }
 
 /// `play --resume PATH`: reads the description of the multiplex from the input, then the checkpoint
@@ -210,10 +261,6 @@ pub fn run_resumed<O: Opener, S: Source, A: Sink, R: Sink>(
         S.left S.faults input.old input.new
         A.written A.faults air.old air.new R.written R.faults report.old report.new result }
 {
-    let Ok(mut lines) = LineReader::open(alloc, &mut *input) else {
-        return out_of_memory(report);
-    };
-    let played = play_from(alloc, &mut lines, path, opener, air);
-    let _source = lines.close();
-    finish(alloc, &played, fold, report)
+    let how = PlayAs { fold, long: false };
+    run_resumed_as(alloc, path, how, opener, input, air, report)
 }
