@@ -34,7 +34,8 @@ use Rattle.epg_follow.specs.Course.{followed}
 use Rattle.epg_follow.specs.Finish.{FinishedBy}
 use Rattle.epg_follow.specs.Items.{desk_of}
 use Rattle.epg_follow.specs.Rest.{FollowedWholeLines, RestDid, RestTaken}
-use Rattle.epg_follow.specs.Runs.{HasFollowedOn, IsBehindMux, LeavesLong, follow_limit}
+use Rattle.epg_follow.specs.Runs.{HasFollowedOn, IsBehindMux, LeavesLong}
+use Rattle.epg_play.specs.Script.{long_limit}
 use Rattle.epg_follow.proofs.BehindFacts.{IsStartOf, follows_behind, memory_behind}
 use Rattle.epg_follow.proofs.CourseFacts.{ends_there, stopped}
 use Rattle.epg_follow.proofs.EndFacts.{end_met, ends_as, met_read}
@@ -68,7 +69,7 @@ FollowsAny keep mux start before air report ls t =
     → FollowsBehind keep mux journal earlier air report ls t
 
 module _ {S : Type 0} (keep : Bool) (left : S → Option (List ℕ)) (source : S) (mid new : Reading S) (text : List ℕ) (mux : Mux) (told : left source ≡ Some text)
-    (d : LeavesAhead left description_ahead (Came (Ok mux)) (fresh_to follow_limit source) mid text) (came : Passes left description_ahead (Came (Ok mux)) (fresh_to follow_limit source) mid)
+    (d : LeavesAhead left description_ahead (Came (Ok mux)) (fresh_to long_limit source) mid text) (came : Passes left description_ahead (Came (Ok mux)) (fresh_to long_limit source) mid)
     (start : Start) (a0 a1 r0 r2 : Option (List ℕ)) (f0 f1 g0 g2 : ℕ) (s : Status) (known : IsBehindMux s)
     (on : HasFollowedOn keep left mid new start (took a0 a1 f0 f1) (took r0 r2 g0 g2) s) (Idle : Status → Type 0) (B : Mux → Ahead → Status → Type 0)
     (wrap : (ls : Ahead) (t : Status) → IsBehindMux t → FollowsAny keep mux start a0 (took a0 a1 f0 f1) (took r0 r2 g0 g2) ls t → B mux ls t) where
@@ -116,9 +117,9 @@ module _ {S : Type 0} (keep : Bool) (left : S → Option (List ℕ)) (source : S
   taken_long : on.result ≡ Err (Read Failed) → FollowedWholeLines keep left mid new short on.first on.end (took a0 a1 f0 f1) (took r0 on.written g0 on.faults) → s ≡ status.ReadFault Input
       → FinishedBy on.end (Err (Read Failed)) (took on.written r2 on.faults g2) s → LeavesLong Idle B text (left new.source) s
   taken_long is p e finished =
-      let both : WereWhole left (fresh_to follow_limit source) new (came.looked.lines ++ p.lines) = whole_more left (fresh_to follow_limit source) mid new came.looked.lines p.lines came.looked.handed p.unended p.whole in
+      let both : WereWhole left (fresh_to long_limit source) new (came.looked.lines ++ p.lines) = whole_more left (fresh_to long_limit source) mid new came.looked.lines p.lines came.looked.handed p.unended p.whole in
       let lines_are = ahead_with mid p.lines Breaks in
-      let are : described_taken both.more ≡ Came (Ok mux) lines_are = ap (λ l. description_ahead (ahead_with (fresh_to follow_limit source) l Breaks)) both.whole ∙ came.reads p.lines Breaks in
+      let are : described_taken both.more ≡ Came (Ok mux) lines_are = ap (λ l. description_ahead (ahead_with (fresh_to long_limit source) l Breaks)) both.whole ∙ came.reads p.lines Breaks in
       let b = bytes_left (left new.source) text both.more (subst (λ (o : Option (List ℕ)). Consumes o (left new.source) both.more) told both.gave) in
       let did : Scripts lines_are (Err (Read Failed)) = (p.did.0, stopped Unread [], p.did.1 ∙ sym (ends_there p.did.0 Unread []), p.did.2) in
       let behind : Any lines_are s = λ shift journal earlier base run from.
@@ -167,13 +168,13 @@ new_from mux start w new =
 
 pub new_long : {S : Type 0} (keep : Bool) (left : S → Option (List ℕ)) (faults : S → ℕ) (alike : S → S → Type 0) (old mid new : Reading S) (text : List ℕ) (mux : Mux) (start : Start)
     (a0 a1 r0 r2 : Option (List ℕ)) (f0 f1 g0 g2 : ℕ) (s : Status)
-    → IsBehindMux s → old ≡ fresh_to follow_limit old.source → left old.source ≡ Some text → ReadMux left faults alike old mid (Ok mux) → IsNew mux start
+    → IsBehindMux s → old ≡ fresh_to long_limit old.source → left old.source ≡ Some text → ReadMux left faults alike old mid (Ok mux) → IsNew mux start
     → HasFollowedOn keep left mid new start (took a0 a1 f0 f1) (took r0 r2 g0 g2) s
     → LeavesLong (Nothing (took a0 a1 f0 f1) (took r0 r2 g0 g2)) (λ m. FollowsBehind keep m [] [] (took a0 a1 f0 f1) (took r0 r2 g0 g2)) text (left new.source) s
 new_long keep left faults alike old mid new text mux start a0 a1 r0 r2 f0 f1 g0 g2 s known unread told read is on =
-    let reads = mux_read left faults alike (fresh_to follow_limit old.source) mid mux (subst (λ r. ReadMux left faults alike r mid (Ok mux)) unread read) in
+    let reads = mux_read left faults alike (fresh_to long_limit old.source) mid mux (subst (λ r. ReadMux left faults alike r mid (Ok mux)) unread read) in
     let d = reads.gives refl text (long_text left old.source text told) in
-    let run = new_run mux (ahead mid d.rest) (ahead (fresh_to follow_limit old.source) text, d.reads) in
+    let run = new_run mux (ahead mid d.rest) (ahead (fresh_to long_limit old.source) text, d.reads) in
     followed_long keep left old.source mid new text mux told d (reads.takes refl) start a0 a1 r0 r2 f0 f1 g0 g2 s known on
     (Nothing (took a0 a1 f0 f1) (took r0 r2 g0 g2)) (λ m. FollowsBehind keep m [] [] (took a0 a1 f0 f1) (took r0 r2 g0 g2))
     (λ ls t is_known any. any 0 [] [] (subst (λ (l : List Entry). IsBase mux 0 [] l) (sym (new_entries mux start is)) (new_base mux run.folds.sound)) run (new_from mux start a0 is))
@@ -181,7 +182,7 @@ new_long keep left faults alike old mid new text mux start a0 a1 r0 r2 f0 f1 g0 
 -- no multiplex is described
 pub undescribed_run : {S : Type 0} (left : S → Option (List ℕ)) (faults : S → ℕ) (alike : S → S → Type 0) (old new : Reading S) (text : List ℕ) (stop : MuxStop) (met s : Status) (air report : ReportTaken)
     (Idle : Status → Type 0) (B : Mux → Ahead → Status → Type 0)
-    → old ≡ fresh_to follow_limit old.source → left old.source ≡ Some text → ReadMux left faults alike old new (Err stop) → met ≡ status_for (mux_stop stop) → EndsIdle met report s
+    → old ≡ fresh_to long_limit old.source → left old.source ≡ Some text → ReadMux left faults alike old new (Err stop) → met ≡ status_for (mux_stop stop) → EndsIdle met report s
     → ((t : Status) → Reported report (fault_lines t) → Idle t) → LeavesLong Idle B text (left new.source) s
 undescribed_run left faults alike old new text stop met s air report Idle B unread told read is ends idle =
     idle_ends (status_for (mux_stop stop)) s report (LeavesLong Idle B text (left new.source)) (own_status stop) (subst (λ (m : Status). EndsIdle m report s) is ends)

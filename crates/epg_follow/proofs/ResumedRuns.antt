@@ -39,7 +39,9 @@ use Rattle.epg_play.proofs.ReadBack.{begun_from, read_as, same_checkpoint}
 use Rattle.epg_play.proofs.SentBehind.{whole_sent_behind}
 use Rattle.epg_follow.specs.Behind.{FollowsBehind}
 use Rattle.epg_follow.specs.Finish.{EndsIdle}
-use Rattle.epg_follow.specs.Runs.{FollowResumes, HasFollowedOn, IsBehindMux, LeavesLong, RefusedAt, described_long, follow_limit}
+use Rattle.epg_follow.specs.Runs.{FollowResumes, HasFollowedOn, IsBehindMux, LeavesLong, RefusedAt}
+use Rattle.epg_play.specs.Over.{described_within}
+use Rattle.epg_play.specs.Script.{long_limit}
 use Rattle.epg_follow.proofs.GoingFacts.{took}
 use Rattle.epg_follow.proofs.LongFacts.{idle_ends, long_text}
 use Rattle.epg_follow.proofs.NewRuns.{followed_long}
@@ -123,7 +125,7 @@ begun_said other is = absurd is
 
 -- over the text
 not_long : (Idle : Status → Type 0) (B : Mux → Ahead → Status → Type 0) (text : List ℕ) (left : Option (List ℕ)) (mux : Mux) (lines : Ahead) (met : Status)
-    → described_long text ≡ Came (Ok mux) lines → IsNotBegun met → B mux lines met → LeavesLong Idle B text left met
+    → described_within long_limit text ≡ Came (Ok mux) lines → IsNotBegun met → B mux lines met → LeavesLong Idle B text left met
 not_long Idle B text left mux lines (OpenFault n) d is b = subst (λ (found : Found Description). LeavesBy Idle B found (OpenFault n)) (sym d) b
 not_long Idle B text left mux lines (BadCheckpoint n) d is b = subst (λ (found : Found Description). LeavesBy Idle B found (BadCheckpoint n)) (sym d) b
 not_long Idle B text left mux lines (PastLimit origin) d is b = subst (λ (found : Found Description). LeavesBy Idle B found (PastLimit origin)) (sym d) b
@@ -146,13 +148,13 @@ refused_none path files Idle mux (BadCheckpoint n) is = absurd is
 refused_none path files Idle mux other is = tt
 
 module _ {S : Type 0} (keep : Bool) (left : S → Option (List ℕ)) (faults : S → ℕ) (alike : S → S → Type 0) (old mid : Reading S) (text : List ℕ) (mux : Mux)
-    (path : List ℕ) (files : Files) (opener : OpenerAsked) (unread : old ≡ fresh_to follow_limit old.source) (told : left old.source ≡ Some text) (read : ReadMux left faults alike old mid (Ok mux))
+    (path : List ℕ) (files : Files) (opener : OpenerAsked) (unread : old ≡ fresh_to long_limit old.source) (told : left old.source ≡ Some text) (read : ReadMux left faults alike old mid (Ok mux))
     (tried : Tries opener.tried_old opener.tried_new path) where
   -- the file holds no checkpoint
   pub refused_long : (met s : Status) (w r0 r2 : Option (List ℕ)) (f g0 g2 : ℕ) → BeginsAt path files mux (Err met) → IsNotBegun met → EndsIdle met (took r0 r2 g0 g2) s
       → LeavesLong (NothingAsked opener (took w w f f) (took r0 r2 g0 g2)) (FollowResumes path files keep opener (took w w f f) (took r0 r2 g0 g2)) text (left mid.source) s
   refused_long met s w r0 r2 f g0 g2 at is ends =
-      let reads = mux_read left faults alike (fresh_to follow_limit old.source) mid mux (subst (λ r. ReadMux left faults alike r mid (Ok mux)) unread read) in
+      let reads = mux_read left faults alike (fresh_to long_limit old.source) mid mux (subst (λ r. ReadMux left faults alike r mid (Ok mux)) unread read) in
       let d = reads.gives refl text (long_text left old.source text told) in
       let Idle = NothingAsked opener (took w w f f) (took r0 r2 g0 g2) in
       let B = FollowResumes path files keep opener (took w w f f) (took r0 r2 g0 g2) in
@@ -165,7 +167,7 @@ module _ {S : Type 0} (keep : Bool) (left : S → Option (List ℕ)) (faults : S
       → HasFollowedOn keep left mid new start (took a0 a1 f0 f1) (took r0 r2 g0 g2) s
       → LeavesLong (NothingAsked opener (took a0 a1 f0 f1) (took r0 r2 g0 g2)) (FollowResumes path files keep opener (took a0 a1 f0 f1) (took r0 r2 g0 g2)) text (left new.source) s
   resumed_long new start a0 a1 r0 r2 f0 f1 g0 g2 s known began on =
-      let reads = mux_read left faults alike (fresh_to follow_limit old.source) mid mux (subst (λ r. ReadMux left faults alike r mid (Ok mux)) unread read) in
+      let reads = mux_read left faults alike (fresh_to long_limit old.source) mid mux (subst (λ r. ReadMux left faults alike r mid (Ok mux)) unread read) in
       let d = reads.gives refl text (long_text left old.source text told) in
       followed_long keep left old.source mid new text mux told d (reads.takes refl) start a0 a1 r0 r2 f0 f1 g0 g2 s known on
       (NothingAsked opener (took a0 a1 f0 f1) (took r0 r2 g0 g2)) (FollowResumes path files keep opener (took a0 a1 f0 f1) (took r0 r2 g0 g2))

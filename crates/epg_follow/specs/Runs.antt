@@ -4,11 +4,9 @@ use Rattle.std.specs.Io.KnownBytes.{IsAtEnd}
 use Rattle.si_causes.specs.Causes.{Rose}
 use Rattle.si_causes.specs.Opening.{Files, Tries, file_at}
 use Rattle.si_causes.specs.Reading.{Reading}
-use Rattle.si_causes.specs.Text.{lines_left}
-use Rattle.input_lines.specs.Ahead.{Ahead, Came, Found, NoCommand as NoLine, TooLong as Overlong, ahead_in}
+use Rattle.input_lines.specs.Ahead.{Ahead, Came, NoCommand as NoLine, TooLong as Overlong}
 use Rattle.air_model.specs.Air.{Aired}
 use Rattle.mux_model.specs.declared.mux.Mux.{Mux}
-use Rattle.mux_config.specs.Descriptions.{Description, description_ahead}
 use Rattle.journal_model.specs.declared.step.Entry.{Entry}
 use Rattle.desk_checkpoint.specs.declared.start.Start.{Start}
 use Rattle.epg_report.specs.declared.status.Status.{Status}
@@ -21,7 +19,8 @@ use Rattle.epg_play.specs.Beginning.{IsOfResume}
 use Rattle.epg_play.specs.Checkpointed.{HasRun, IsCheckpoint, checkpoint_limit, checkpoint_of}
 use Rattle.epg_play.specs.CheckpointRuns.{Nothing, NothingAsked}
 use Rattle.epg_play.specs.Leaves.{IsOfPlay}
-use Rattle.epg_play.specs.Over.{LeavesBy, LeavesTaken}
+use Rattle.epg_play.specs.Over.{LeavesOver, described_within}
+use Rattle.epg_play.specs.Script.{long_limit}
 use Rattle.epg_follow.specs.declared.follower.Follower.{Follower}
 use Rattle.epg_follow.specs.declared.stop.FollowStop.{FollowStop}
 use Rattle.epg_follow.specs.declared.stop.FollowStop.TheVariants.{Air}
@@ -29,20 +28,11 @@ use Rattle.epg_follow.specs.Behind.{FollowsBehind}
 use Rattle.epg_follow.specs.Finish.{FinishedBy}
 use Rattle.epg_follow.specs.Going.{Stops}
 
--- how many bytes a script may have that is followed
-abbrev pub follow_limit : ℕ
-follow_limit = 18446744073709551614
-
--- the description in such a text
-abbrev pub described_long : List ℕ → Found Description
-described_long text = description_ahead (ahead_in 1 (lines_left follow_limit text))
-
--- What a run leaves over such a text: behind a description that is whole what `Behind` says, and else nothing.
+-- What a run leaves over the text of a long script: behind a description that is whole what `Behind` says, and else nothing.
 abbrev pub LeavesLong : (Status → Type 0) → (Mux → Ahead → Status → Type 0) → List ℕ → Option (List ℕ) → Status → Type 0
-LeavesLong Idle Behind text left (ReadFault Input) = LeavesTaken Idle Behind text left
 LeavesLong Idle Behind text left Memory =
-    Idle Memory ⊎ ((mux : Mux) × (lines : Ahead) × (described_long text ≡ Came (Ok mux) lines) × Behind mux lines Memory)
-LeavesLong Idle Behind text left status = LeavesBy Idle Behind (described_long text) status
+    Idle Memory ⊎ ((mux : Mux) × (lines : Ahead) × (described_within long_limit text ≡ Came (Ok mux) lines) × Behind mux lines Memory)
+LeavesLong Idle Behind text left status = LeavesOver long_limit Idle Behind text left status
 
 -- ---- a start that was followed
 

@@ -7,8 +7,9 @@ ghost use Rattle.epg_report.specs.Asked.{HasAskedFor};
 ghost use Rattle.epg_play.specs.Beginning.{IsOfResume};
 ghost use Rattle.epg_play.specs.CheckpointRuns.{Nothing, NothingAsked};
 ghost use Rattle.epg_play.specs.Leaves.{IsOfPlay};
+ghost use Rattle.epg_play.specs.Script.{long_limit};
 ghost use Rattle.epg_follow.specs.Behind.{FollowsBehind};
-ghost use Rattle.epg_follow.specs.Runs.{FollowRan, FollowResumeRan, FollowResumes, HasFollowedOn, IsBehindMux, LeavesLong, follow_limit};
+ghost use Rattle.epg_follow.specs.Runs.{FollowRan, FollowResumeRan, FollowResumes, HasFollowedOn, IsBehindMux, LeavesLong};
 ghost use Rattle.std.specs.Io.KnownBytes.{IsAtEnd};
 ghost use Rattle.journal_model.specs.declared.step.Entry.{Entry as AnEntry};
 ghost use Rattle.desk_core.specs.Lean.{StandsFor};
@@ -21,14 +22,11 @@ use crate::follower::Follower;
 use crate::item::follow_item;
 use crate::stop::FollowStop;
 use desk_checkpoint::Start;
-use epg_play::{mux_stop_of, new_start, start_at, status_of};
+use epg_play::{LONG_LIMIT, mux_stop_of, new_start, start_at, status_of};
 use epg_report::{Origin, Outlet, Status, out_of_memory};
 use mux_config::read_mux;
 use si_causes::{LineReader, Opener, Sink, Source};
 use std::alloc::Global;
-
-/// How many bytes a script may have that is followed.
-const FOLLOW_LIMIT: u64 = 18_446_744_073_709_551_614;
 
 /// Follows the script that is left: each line is done, and its entry or its comment reported, before the next is taken up.
 pub fn follow_rest<S: Source, A: Sink, R: Sink>(
@@ -101,7 +99,7 @@ fn follow_new<S: Source, A: Sink, R: Sink>(
     air: &mut A,
     report: &mut R,
 ) -> Status
-    requires unread { lines.old ≡ fresh_to follow_limit lines.old.source }
+    requires unread { lines.old ≡ fresh_to long_limit lines.old.source }
     ensures leaves { (text : List ℕ) → S.left lines.old.source ≡ Some text
         → LeavesLong (Nothing (told A.written A.faults air.old air.new)
         (told R.written R.faults report.old report.new))
@@ -143,7 +141,7 @@ pub fn run_followed<S: Source, A: Sink, R: Sink>(
     ensures run { FollowRan keep S.left S.faults input.old input.new
         A.written A.faults air.old air.new R.written R.faults report.old report.new result }
 {
-    let Ok(mut lines) = LineReader::open_to(alloc, &mut *input, FOLLOW_LIMIT) else {
+    let Ok(mut lines) = LineReader::open_to(alloc, &mut *input, LONG_LIMIT) else {
         return out_of_memory(report);
     };
     let status = follow_new(alloc, &mut lines, keep, air, report);
@@ -161,7 +159,7 @@ fn follow_from<O: Opener, S: Source, A: Sink, R: Sink>(
     air: &mut A,
     report: &mut R,
 ) -> Status
-    requires unread { lines.old ≡ fresh_to follow_limit lines.old.source }
+    requires unread { lines.old ≡ fresh_to long_limit lines.old.source }
     ensures leaves { (text : List ℕ) → S.left lines.old.source ≡ Some text → (files : Files)
         → O.files opener.old ≡ Some files
         → LeavesLong (NothingAsked
@@ -212,7 +210,7 @@ pub fn run_follow_resumed<O: Opener, S: Source, A: Sink, R: Sink>(
         S.left S.faults input.old input.new
         A.written A.faults air.old air.new R.written R.faults report.old report.new result }
 {
-    let Ok(mut lines) = LineReader::open_to(alloc, &mut *input, FOLLOW_LIMIT) else {
+    let Ok(mut lines) = LineReader::open_to(alloc, &mut *input, LONG_LIMIT) else {
         return out_of_memory(report);
     };
     let status = follow_from(alloc, &mut lines, path, keep, opener, air, report);

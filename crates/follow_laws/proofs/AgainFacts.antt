@@ -36,10 +36,10 @@ use Rattle.std.proofs.lemmas.List.{map-append}
 use Rattle.si_causes.specs.Text.{AtEnd, TextEnd, lines_left}
 use Rattle.desk_core.proofs.JournalFacts.{journal_only}
 use Rattle.epg_play.specs.Leaves.{whole_journal}
-use Rattle.epg_play.specs.Script.{script_with, with_commands}
+use Rattle.epg_play.specs.Script.{script_with, script_within, with_commands}
 use Rattle.input_lines.specs.Ahead.{ahead_in}
 use Rattle.mux_config.specs.Descriptions.{described_from, description_ahead}
-use Rattle.follow_laws.specs.Again.{DescriptionsGoOn, ReportsAreScripts, ReportsPlayAgain, script_within}
+use Rattle.follow_laws.specs.Again.{DescriptionsGoOn, ReportsAreScripts, ReportsPlayAgain}
 
 -- ---- a comment is passed over
 

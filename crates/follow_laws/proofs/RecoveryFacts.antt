@@ -14,7 +14,7 @@ use Rattle.desk_core.specs.Journal.{Legal, LegalAfter, journal_after}
 use Rattle.desk_core.proofs.JournalFacts.{journal_only}
 use Rattle.epg_play.specs.Behind.{LeavesBehind, AirOn, CutAirOn, WentOn, played_behind}
 use Rattle.epg_play.proofs.RunFacts.{whole}
-use Rattle.epg_play.specs.Script.{Script, script_in, Ended, Stop}
+use Rattle.epg_play.specs.Script.{Script, script_within, Ended, Stop}
 use Rattle.epg_report.specs.Told.{ReportTaken}
 use Rattle.epg_report.specs.declared.status.Origin.TheVariants.{Input, Recording}
 use Rattle.epg_report.specs.declared.status.Outlet.TheVariants.{Air, Report}
@@ -30,14 +30,12 @@ use Rattle.follow_report.specs.Pieces.{IsPieceOfLines, IsReadablePiece, Piece, e
 use Rattle.follow_report.specs.Whole.{whole_entries}
 use Rattle.follow_report.proofs.LineFacts.{all_up}
 use Rattle.follow_report.proofs.PieceFacts.{entries_are_kept, readable_of_lines, same_entries}
-use Rattle.mux_config.specs.Texts.{described}
 use Rattle.follow_laws.specs.Recovery.{WholeEntriesFold, DidBegin, DidRead, RunsAreBridged, FoldRunsMakeWhatWasAired, FoldsMakeWhatWasAired, IsFolded, RecoveredRunsAreBridged, ResumedFoldsMakeWhatWasAired, ResumedRunsGoOn, StandingRunsGoOn, WentOnAir}
 use Rattle.follow_laws.specs.Stands.{Stands, standing}
-use Rattle.si_causes.specs.Text.{text_limit}
 use Rattle.command_text.specs.Back.{shown_lines}
 use Rattle.epg_play.specs.Again.{Describes}
 use Rattle.epg_play.specs.CheckpointRuns.{NothingAsked, Resumes}
-use Rattle.epg_play.specs.Over.{LeavesBy, LeavesOver}
+use Rattle.epg_play.specs.Over.{LeavesBy, LeavesOver, described_within}
 use Rattle.mux_config.specs.Descriptions.{Description}
 use Rattle.follow_laws.proofs.AgainFacts.{reports_are_scripts, descriptions_go_on, reports_play_again}
 use Rattle.follow_laws.proofs.BridgeFacts.{kills_are_bridged}
@@ -131,32 +129,32 @@ folds_make_what_was_aired mux before earlier pieces taken report stands legal re
     (text, is_folded mux before earlier pieces taken report stands legal readable n m air_took report_took text went appended)
 
 pub whole_entries_fold : WholeEntriesFold
-whole_entries_fold mux block pieces taken report stands d legal readable le input air_took report_took status gave run no_input no_air no_report =
+whole_entries_fold limit mux block pieces taken report stands d legal readable le input air_took report_took status gave run no_input no_air no_report =
     let text = up_to_entry (take stands.k pieces) in
     let fine = subst (LegalAfter mux []) (sym (same_entries (take stands.k pieces))) (standing_legal mux [] stands.k pieces legal) in
     let ready = all_up IsReadablePiece is_entry (take stands.k pieces) (all_take IsReadablePiece stands.k pieces readable) in
     let is = text_stands mux [] [] pieces taken report stands legal readable in
-    let short = subst (λ (t : List ℕ). length (block ++ t) ≤ text_limit) is le in
-    let plays = reports_are_scripts mux block text text_limit d fine ready short in
-    let ended : (script_in (block ++ whole_entries report)).stop ≡ Ended =
-    ap (λ (t : List ℕ). (script_in (block ++ t)).stop) is ∙ ap (λ (s : Script). s.stop) plays.script_is in
-    whole (script_in (block ++ whole_entries report)).stop status ended (run.completes (block ++ whole_entries report) gave no_input no_air no_report)
+    let short = subst (λ (t : List ℕ). length (block ++ t) ≤ limit) is le in
+    let plays = reports_are_scripts mux block text limit d fine ready short in
+    let ended : (script_within limit (block ++ whole_entries report)).stop ≡ Ended =
+    ap (λ (t : List ℕ). (script_within limit (block ++ t)).stop) is ∙ ap (λ (s : Script). s.stop) plays.script_is in
+    whole (script_within limit (block ++ whole_entries report)).stop status ended (run.completes (block ++ whole_entries report) gave no_input no_air no_report)
 
 -- what a run left over a description and a text it left behind the description
-left_behind : (Idle : Status → Type 0) (Behind : Mux → Ahead → Status → Type 0) (mux : Mux) (block text : List ℕ) → Describes block mux → length (block ++ text) ≤ text_limit
-    → (left : Option (List ℕ)) → LeavesOver Idle Behind (block ++ text) left Done
+left_behind : (limit : ℕ) (Idle : Status → Type 0) (Behind : Mux → Ahead → Status → Type 0) (mux : Mux) (block text : List ℕ) → Describes block mux → length (block ++ text) ≤ limit
+    → (left : Option (List ℕ)) → LeavesOver limit Idle Behind (block ++ text) left Done
     → Behind mux (ahead_of (1 + length (shown_lines block)) text (Ends (1 + length (shown_lines (block ++ text))))) Done
-left_behind Idle Behind mux block text d le left leaves =
-    subst (λ (f : Found Description). LeavesBy Idle Behind f Done) (descriptions_go_on mux block text text_limit d le) leaves
+left_behind limit Idle Behind mux block text d le left leaves =
+    subst (λ (f : Found Description). LeavesBy Idle Behind f Done) (descriptions_go_on mux block text limit d le) leaves
 
 pub fold_runs_make_what_was_aired : FoldRunsMakeWhatWasAired
-fold_runs_make_what_was_aired mux block pieces taken report stands d legal readable le input air_took report_took gave run =
+fold_runs_make_what_was_aired limit mux block pieces taken report stands d legal readable le input air_took report_took gave run =
     folds_make_what_was_aired mux [] [] pieces taken report stands legal readable _ _ air_took report_took
-    (left_behind _ (λ (m : Mux). LeavesBehind true m [] [] air_took report_took) mux block (whole_entries report) d le input.new (run.leaves (block ++ whole_entries report) gave))
+    (left_behind limit _ (λ (m : Mux). LeavesBehind true m [] [] air_took report_took) mux block (whole_entries report) d le input.new (run.leaves (block ++ whole_entries report) gave))
 
 pub resumed_folds_make_what_was_aired : ResumedFoldsMakeWhatWasAired
-resumed_folds_make_what_was_aired mux block before earlier pieces taken report stands d legal readable le path bytes files file few run_before checkpoint opener input air_took report_took opened gave run =
-    let left = left_behind (NothingAsked opener air_took report_took) (Resumes path files true opener air_took report_took) mux block (whole_entries report) d le input.new
+resumed_folds_make_what_was_aired limit mux block before earlier pieces taken report stands d legal readable le path bytes files file few run_before checkpoint opener input air_took report_took opened gave run =
+    let left = left_behind limit (NothingAsked opener air_took report_took) (Resumes path files true opener air_took report_took) mux block (whole_entries report) d le input.new
     (run.leaves (block ++ whole_entries report) gave files opened) in
     folds_make_what_was_aired mux before earlier pieces taken report stands legal readable _ _ air_took report_took
     (left.goes_on before earlier bytes file few run_before checkpoint)
@@ -232,11 +230,11 @@ recovered_runs_are_bridged mux before earlier pieces taken report stands folded_
 -- ---- whole runs
 
 -- what a run left that read its description
-left_by : (Idle : Status → Type 0) (Behind : Mux → Ahead → Status → Type 0) (mux : Mux) (lines : Ahead) (script : List ℕ) (left : Option (List ℕ)) → described script ≡ Came (Ok mux) lines
-    → (status : Status) → DidRead status → LeavesOver Idle Behind script left status → Behind mux lines status
-left_by Idle Behind mux lines script left d (ReadFault Input) did leaves = absurd did
-left_by Idle Behind mux lines script left d Memory did leaves = absurd did
-left_by Idle Behind mux lines script left d status did leaves = subst (λ (f : Found Description). LeavesBy Idle Behind f status) d leaves
+left_by : (limit : ℕ) (Idle : Status → Type 0) (Behind : Mux → Ahead → Status → Type 0) (mux : Mux) (lines : Ahead) (script : List ℕ) (left : Option (List ℕ)) → described_within limit script ≡ Came (Ok mux) lines
+    → (status : Status) → DidRead status → LeavesOver limit Idle Behind script left status → Behind mux lines status
+left_by limit Idle Behind mux lines script left d (ReadFault Input) did leaves = absurd did
+left_by limit Idle Behind mux lines script left d Memory did leaves = absurd did
+left_by limit Idle Behind mux lines script left d status did leaves = subst (λ (f : Found Description). LeavesBy Idle Behind f status) d leaves
 
 did_begin : (status : Status) → DidRead status → DidBegin status
 did_begin (ReadFault Input) did = absurd did
@@ -248,10 +246,10 @@ took before after text other was now appends =
     sym (subst (λ (a : Option (List ℕ)). Appends (Some []) a other) now (subst (λ (b : Option (List ℕ)). Appends b after other) was appends))
 
 pub runs_are_bridged : RunsAreBridged
-runs_are_bridged mux block pieces taken report stands d legal readable le few moment fold_input fold_air fold_report gave folding text was now short path files file opener input air report_took status resuming opened script lines given read did =
-    let (other, folded) = fold_runs_make_what_was_aired mux block pieces taken report stands d legal readable le fold_input fold_air fold_report gave folding in
+runs_are_bridged limit again mux block pieces taken report stands d legal readable le few moment fold_input fold_air fold_report gave folding text was now short path files file opener input air report_took status resuming opened script lines given read did =
+    let (other, folded) = fold_runs_make_what_was_aired limit mux block pieces taken report stands d legal readable le fold_input fold_air fold_report gave folding in
     let same : other ≡ text = took fold_report.old fold_report.new text other was now folded.report_is in
-    let resumes = left_by (NothingAsked opener air report_took) (Resumes path files false opener air report_took) mux lines script input.new read status did (resuming.leaves script given files opened) in
+    let resumes = left_by again (NothingAsked opener air report_took) (Resumes path files false opener air report_took) mux lines script input.new read status did (resuming.leaves script given files opened) in
     recovered_runs_are_bridged mux [] [] pieces taken report stands fold_air fold_report text
     (subst (λ (t : List ℕ). IsFolded mux (standing stands) [] stands.cycles fold_air fold_report t) same folded)
     few moment path files file short opener air report_took lines status resumes (did_begin status did)

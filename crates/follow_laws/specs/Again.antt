@@ -6,8 +6,8 @@ use Rattle.command_text.specs.Back.{ahead_of, shown_lines}
 use Rattle.desk_core.specs.Journal.{Legal, LegalAfter}
 use Rattle.epg_play.specs.Again.{Describes, PlaysAgain}
 use Rattle.epg_play.specs.Behind.{played_behind}
-use Rattle.epg_play.specs.Script.{Ended, Script, script_of_lines}
-use Rattle.input_lines.specs.Ahead.{Came, Ends, ahead_in, tail_of}
+use Rattle.epg_play.specs.Script.{Ended, script_within}
+use Rattle.input_lines.specs.Ahead.{Came, Ends, ahead_in}
 use Rattle.journal_model.specs.Steps.{command_of}
 use Rattle.journal_model.specs.declared.step.Entry.{Entry}
 use Rattle.mux_config.specs.Descriptions.{description_ahead}
@@ -34,13 +34,7 @@ DescriptionsGoOn =
     ≡ Came (Ok mux) (ahead_of (1 + length (shown_lines block)) text
     (Ends (1 + length (shown_lines (block ++ text)))))
 
--- the script of a text of which so many bytes may be taken
-abbrev pub script_within : ℕ → List ℕ → Script
-script_within limit text =
-    (let lines = lines_left limit text in
-    script_of_lines lines.0 (tail_of (1 + length lines.0) lines.1))
-
--- There the text of a report is the script of its entries, ended.
+-- Within any limit the text of a report is there the script of its entries, ended.
 abbrev pub ReportsAreScripts : Type 0
 ReportsAreScripts =
     (mux : Mux) (block : List ℕ) (pieces : List Piece) (limit : ℕ)

@@ -3,7 +3,6 @@ use Rattle.std.specs.Prelude.{◌≡◌, ◌⊎◌, ◌<◌, ◌≤◌, ◌^◌,
 use Rattle.std.specs.Io.KnownBytes.{Appends}
 use Rattle.std.specs.List.{AllByRecursion}
 use Rattle.si_causes.specs.Causes.{Rose}
-use Rattle.si_causes.specs.Text.{text_limit}
 use Rattle.si_causes.specs.Opening.{Files, file_at}
 use Rattle.air_model.specs.Air.{Aired, air_bytes}
 use Rattle.command_text.specs.Back.{ahead_of}
@@ -11,14 +10,14 @@ use Rattle.desk_core.specs.Journal.{Legal, LegalAfter, publishes}
 use Rattle.epg_play.specs.Again.{Describes}
 use Rattle.epg_play.specs.Behind.{LeavesBehind}
 use Rattle.epg_play.specs.Checkpointed.{HasRun, IsCheckpoint, checkpoint_limit}
-use Rattle.epg_play.specs.CheckpointRuns.{FoldRun, ResumeRun, Resumes}
+use Rattle.epg_play.specs.CheckpointRuns.{FoldRunWithin, ResumeRunWithin, Resumes}
+use Rattle.epg_play.specs.Over.{described_within}
 use Rattle.epg_play.specs.NeverRefused.{HasShortMoment}
 use Rattle.epg_report.specs.Told.{OpenerAsked, ReportTaken, SourceGave}
 use Rattle.epg_report.specs.declared.status.Origin.TheVariants.{Input, Recording}
 use Rattle.epg_report.specs.declared.status.Status.{Status}
 use Rattle.epg_report.specs.declared.status.Status.TheVariants.{Done, Memory, OpenFault, ReadFault}
 use Rattle.input_lines.specs.Ahead.{Ahead, Came, Ends}
-use Rattle.mux_config.specs.Texts.{described}
 use Rattle.journal_model.specs.declared.step.Entry.{Entry}
 use Rattle.mux_model.specs.declared.mux.Mux.{Mux}
 use Rattle.follow_report.specs.Pieces.{IsReadablePiece, Piece, entries_in}
@@ -52,44 +51,48 @@ FoldsMakeWhatWasAired =
     → (text : List ℕ)
     × IsFolded mux (before ++ standing stands) earlier stands.cycles air_took report_took text
 
--- So does `play --fold` of a description and the whole entries,
+-- So does `play --fold` of a description and the whole entries, within the limit of a script, long or
+-- not,
 abbrev pub FoldRunsMakeWhatWasAired : Type 0
 FoldRunsMakeWhatWasAired =
-    (mux : Mux) (block : List ℕ) (pieces : List Piece) (taken report : List ℕ)
+    (limit : ℕ) (mux : Mux) (block : List ℕ) (pieces : List Piece) (taken report : List ℕ)
     (stands : Stands mux [] [] pieces taken report)
     → Describes block mux → Legal mux (entries_in pieces) → AllByRecursion IsReadablePiece pieces
-    → length (block ++ whole_entries report) ≤ text_limit
+    → length (block ++ whole_entries report) ≤ limit
     → (input : SourceGave) (air_took report_took : ReportTaken)
-    → input.old ≡ Some (block ++ whole_entries report) → FoldRun input air_took report_took Done
+    → input.old ≡ Some (block ++ whole_entries report)
+    → FoldRunWithin limit input air_took report_took Done
     → (text : List ℕ) × IsFolded mux (standing stands) [] stands.cycles air_took report_took text
 
 -- and `play --resume --fold`, from the checkpoint from which the run went on.
 abbrev pub ResumedFoldsMakeWhatWasAired : Type 0
 ResumedFoldsMakeWhatWasAired =
-    (mux : Mux) (block : List ℕ) (before : List Entry) (earlier : List Aired)
+    (limit : ℕ) (mux : Mux) (block : List ℕ) (before : List Entry) (earlier : List Aired)
     (pieces : List Piece) (taken report : List ℕ)
     (stands : Stands mux before earlier pieces taken report)
     → Describes block mux → LegalAfter mux before (entries_in pieces)
     → AllByRecursion IsReadablePiece pieces
-    → length (block ++ whole_entries report) ≤ text_limit
+    → length (block ++ whole_entries report) ≤ limit
     → (path bytes : List ℕ) (files : Files) → file_at path files ≡ Some bytes
     → length bytes ≤ checkpoint_limit → HasRun mux before earlier
     → IsCheckpoint mux before earlier bytes
     → (opener : OpenerAsked) (input : SourceGave) (air_took report_took : ReportTaken)
     → opener.files ≡ Some files → input.old ≡ Some (block ++ whole_entries report)
-    → ResumeRun path true opener input air_took report_took Done
+    → ResumeRunWithin limit path true opener input air_took report_took Done
     → (text : List ℕ)
     × IsFolded mux (before ++ standing stands) earlier stands.cycles air_took report_took text
 
--- Where nothing fails the fold is Done, or memory was wanting: whole entries are never refused.
+-- Where nothing fails the fold is Done, or memory was wanting: whole entries within the limit are
+-- never refused.
 abbrev pub WholeEntriesFold : Type 0
 WholeEntriesFold =
-    (mux : Mux) (block : List ℕ) (pieces : List Piece) (taken report : List ℕ)
+    (limit : ℕ) (mux : Mux) (block : List ℕ) (pieces : List Piece) (taken report : List ℕ)
     → Stands mux [] [] pieces taken report
     → Describes block mux → Legal mux (entries_in pieces) → AllByRecursion IsReadablePiece pieces
-    → length (block ++ whole_entries report) ≤ text_limit
+    → length (block ++ whole_entries report) ≤ limit
     → (input : SourceGave) (air report_took : ReportTaken) (status : Status)
-    → input.old ≡ Some (block ++ whole_entries report) → FoldRun input air report_took status
+    → input.old ≡ Some (block ++ whole_entries report)
+    → FoldRunWithin limit input air report_took status
     → ¬ (Rose input.faults_old input.faults_new) → ¬ (Rose air.faults_old air.faults_new)
     → ¬ (Rose report_took.faults_old report_took.faults_new)
     → (status ≡ Done) ⊎ (status ≡ Memory)
@@ -156,23 +159,24 @@ DidRead status = DidBegin status
 
 -- A run that began from nothing was killed. `play --fold` of its description and of the whole
 -- entries of its report was Done. `play --resume` went on from the file of what that printed, with
--- any script of the multiplex. Then all together are one air.
+-- any script of the multiplex. Then all together are one air. Either run may be of a long script.
 abbrev pub RunsAreBridged : Type 0
 RunsAreBridged =
-    (mux : Mux) (block : List ℕ) (pieces : List Piece) (taken report : List ℕ)
+    (limit again : ℕ) (mux : Mux) (block : List ℕ) (pieces : List Piece) (taken report : List ℕ)
     (stands : Stands mux [] [] pieces taken report)
     → Describes block mux → Legal mux (entries_in pieces) → AllByRecursion IsReadablePiece pieces
-    → length (block ++ whole_entries report) ≤ text_limit
+    → length (block ++ whole_entries report) ≤ limit
     → publishes (standing stands) < 10 ^ 18 → HasShortMoment mux.rate stands.cycles
     → (fold_input : SourceGave) (fold_air fold_report : ReportTaken)
     → fold_input.old ≡ Some (block ++ whole_entries report)
-    → FoldRun fold_input fold_air fold_report Done
+    → FoldRunWithin limit fold_input fold_air fold_report Done
     → (text : List ℕ) → fold_report.old ≡ Some [] → fold_report.new ≡ Some text
     → length text ≤ checkpoint_limit
     → (path : List ℕ) (files : Files) → file_at path files ≡ Some text
     → (opener : OpenerAsked) (input : SourceGave) (air report_took : ReportTaken) (status : Status)
-    → ResumeRun path false opener input air report_took status → opener.files ≡ Some files
+    → ResumeRunWithin again path false opener input air report_took status
+    → opener.files ≡ Some files
     → (script : List ℕ) (lines : Ahead) → input.old ≡ Some script
-    → described script ≡ Came (Ok mux) lines → DidRead status
+    → described_within again script ≡ Came (Ok mux) lines → DidRead status
     → (went : WentOnAir mux (standing stands) stands.cycles air)
     × IsBridged mux [] [] pieces taken report stands went.more went.cycles

@@ -47,8 +47,8 @@ pub fn what_is_left_stands()
 
 /// A run was killed, and the whole entries of its report are folded. The fold makes the very cycles
 /// that were on air, so its report is the checkpoint of what stood. This holds of `play --fold`, of
-/// `play --resume --fold`, and of the lines after any description. Where nothing fails
-/// the fold is Done, but for want of memory (`done`).
+/// `play --resume --fold`, within the limit of any script, and of the lines after any description.
+/// Where nothing fails the fold is Done, but for want of memory (`done`).
 pub fn folds_make_what_was_aired()
     ensures runs { FoldRunsMakeWhatWasAired }
     ensures resumed { ResumedFoldsMakeWhatWasAired }
