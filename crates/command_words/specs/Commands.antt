@@ -27,7 +27,7 @@ said_live live = Live (texts live.feeds.items) live.cycles live.join live.views
 
 -- the words of this `play` say this
 abbrev pub play_options_said : PlayWords → PlayOptions
-play_options_said play = record { fold = play.fold; follow = play.follow; keep_going = play.keep_going }
+play_options_said play = record { fold = play.fold; follow = play.follow; keep_going = play.keep_going; long = play.long }
 
 abbrev pub said_play : PlayWords → CommandLine
 said_play play = Play (play_options_said play) (option_map string_bytes play.resume)

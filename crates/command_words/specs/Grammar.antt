@@ -100,20 +100,25 @@ pub record ListenOptions : Type 0 where
   pub resync : Bool
   pub strict : Bool
 
--- how a script is played: whether the report is a checkpoint, whether each entry is reported before the next line is read, and whether a
--- line at fault is passed over
+-- how a script is played: whether the report is a checkpoint, whether each entry is reported before the next line is read, whether a line at
+-- fault is passed over, and whether the script may have more than 67,108,864 bytes
 pub record PlayOptions : Type 0 where
   pub fold : Bool
   pub follow : Bool
   pub keep_going : Bool
+  pub long : Bool
 
 -- of a run that is not followed: its report is a checkpoint, or a journal
 abbrev pub played : Bool → PlayOptions
-played fold = record { fold = fold; follow = false; keep_going = false }
+played fold = record { fold = fold; follow = false; keep_going = false; long = false }
 
--- of a run that is followed: it passes over each line at fault, or ends at the first
+-- the same where the script may be longer
+abbrev pub played_long : Bool → PlayOptions
+played_long fold = record { fold = fold; follow = false; keep_going = false; long = true }
+
+-- of a run that is followed: it passes over each line at fault, or ends at the first; its script may be longer
 abbrev pub followed : Bool → PlayOptions
-followed keep = record { fold = false; follow = true; keep_going = keep }
+followed keep = record { fold = false; follow = true; keep_going = keep; long = true }
 
 pub data CommandLine : Type 0 where
   -- how it plays, and the path of the checkpoint from which it goes on
@@ -195,22 +200,25 @@ audit_of words = option_map (λ r. Audit r.1 r.0) (flagged_path (codes "--nulls"
 
 -- whether a word is an option of `play` without a value
 abbrev pub is_play_flag : List ℕ → Bool
-is_play_flag word = bytes_eq word (codes "--fold") || (bytes_eq word (codes "--follow") || bytes_eq word (codes "--keep-going"))
+is_play_flag word =
+    bytes_eq word (codes "--fold") || (bytes_eq word (codes "--follow") || (bytes_eq word (codes "--keep-going") || bytes_eq word (codes "--long")))
 
 -- the words from the first on that is none of these
 abbrev pub after_flags : List (List ℕ) → List (List ℕ)
 after_flags [] = []
 after_flags (word ∷ words) = if is_play_flag word then after_flags words else word ∷ words
 
--- these options by how often each stands: `--fold` or `--follow`, at most once, and `--keep-going` at most as often as `--follow`
-abbrev pub play_with : ℕ → ℕ → ℕ → Option PlayOptions
-play_with fold follow keep_going =
-    if nat_le (fold + follow) 1 && nat_le keep_going follow
-    then Some (record { fold = fold == 1; follow = follow == 1; keep_going = keep_going == 1 })
+-- These options by how often each stands: `--fold` or `--follow`, at most once, `--keep-going` at most as often as `--follow`, and `--long`
+-- at most once. `--follow` implies `--long`.
+abbrev pub play_with : ℕ → ℕ → ℕ → ℕ → Option PlayOptions
+play_with fold follow keep_going long =
+    if nat_le (fold + follow) 1 && (nat_le keep_going follow && nat_le long 1)
+    then Some (record { fold = fold == 1; follow = follow == 1; keep_going = keep_going == 1; long = long == 1 || follow == 1 })
     else None
 
 abbrev pub play_options : List (List ℕ) → Option PlayOptions
-play_options words = play_with (times (codes "--fold") words) (times (codes "--follow") words) (times (codes "--keep-going") words)
+play_options words =
+    play_with (times (codes "--fold") words) (times (codes "--follow") words) (times (codes "--keep-going") words) (times (codes "--long") words)
 
 -- a path with no other word after it
 abbrev pub path_before_flags : List ℕ × List (List ℕ) → Option (Option (List ℕ))
@@ -222,7 +230,7 @@ resume_of words =
     let named = after_flags words in
     if is_none named then Some None else option_and_then path_before_flags (path_front (codes "--resume") named)
 
--- `--fold`, or `--follow` with `--keep-going` or without, and `--resume` with a path, each at most once, in any order
+-- `--fold`, or `--follow` with `--keep-going` or without, `--long`, and `--resume` with a path, each at most once, in any order
 abbrev pub play_of : List (List ℕ) → Option CommandLine
 play_of words = option_and_then (λ options. option_map (Play options) (resume_of words)) (play_options words)
 

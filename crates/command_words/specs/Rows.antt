@@ -1,6 +1,6 @@
 -- Worked rows of the definitions.
 use Rattle.std.specs.Prelude.{◌≡◌, [], ◌∷◌, Some, None, true, false, codes, refl}
-use Rattle.command_words.specs.Grammar.{command_of, played, followed, Play, Listen, Live, Soak, Audit}
+use Rattle.command_words.specs.Grammar.{command_of, played, played_long, followed, Play, Listen, Live, Soak, Audit}
 
 two_feeds : command_of (codes "live" ∷ codes "--join=0" ∷ codes "--feed" ∷ codes "a" ∷ codes "--cycles" ∷ codes "3" ∷ codes "--feed=b" ∷ []) ≡ Some (Live (codes "a" ∷ codes "b" ∷ []) 3 0 [])
 two_feeds = refl
@@ -39,6 +39,22 @@ play_resume_between = refl
 play_resume_first : command_of (codes "play" ∷ codes "--resume" ∷ codes "a" ∷ codes "--keep-going" ∷ codes "--follow" ∷ []) ≡ Some (Play (followed true) (Some (codes "a")))
 play_resume_first = refl
 
+-- `--long` with each of them; `--follow` implies it
+play_only_long : command_of (codes "play" ∷ codes "--long" ∷ []) ≡ Some (Play (played_long false) None)
+play_only_long = refl
+
+play_long_fold : command_of (codes "play" ∷ codes "--long" ∷ codes "--fold" ∷ []) ≡ Some (Play (played_long true) None)
+play_long_fold = refl
+
+play_resume_long : command_of (codes "play" ∷ codes "--resume=--long" ∷ codes "--long" ∷ []) ≡ Some (Play (played_long false) (Some (codes "--long")))
+play_resume_long = refl
+
+play_follow_long : command_of (codes "play" ∷ codes "--follow" ∷ codes "--long" ∷ []) ≡ Some (Play (followed false) None)
+play_follow_long = refl
+
+play_long_keep_going : command_of (codes "play" ∷ codes "--long" ∷ codes "--keep-going" ∷ codes "--resume" ∷ codes "a" ∷ codes "--follow" ∷ []) ≡ Some (Play (followed true) (Some (codes "a")))
+play_long_keep_going = refl
+
 -- `--follow` with `--fold`, and `--keep-going` without `--follow`
 play_fold_follow : command_of (codes "play" ∷ codes "--fold" ∷ codes "--follow" ∷ []) ≡ None
 play_fold_follow = refl
@@ -64,6 +80,15 @@ play_follows = refl
 
 play_keeps_going : command_of (codes "play" ∷ codes "--keep-going" ∷ codes "--follow" ∷ codes "--keep-going" ∷ []) ≡ None
 play_keeps_going = refl
+
+play_longs : command_of (codes "play" ∷ codes "--long" ∷ codes "--fold" ∷ codes "--long" ∷ []) ≡ None
+play_longs = refl
+
+play_follow_longs : command_of (codes "play" ∷ codes "--long" ∷ codes "--follow" ∷ codes "--long" ∷ []) ≡ None
+play_follow_longs = refl
+
+play_long_keep : command_of (codes "play" ∷ codes "--long" ∷ codes "--keep-going" ∷ []) ≡ None
+play_long_keep = refl
 
 play_resumes : command_of (codes "play" ∷ codes "--resume=a" ∷ codes "--resume=a" ∷ []) ≡ None
 play_resumes = refl

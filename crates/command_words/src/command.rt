@@ -49,8 +49,8 @@ pub enum WordsStop {
 /// The command that words spell; the program's name is not among them.
 ///
 /// `listen` has, in any order, `--partial`, `--resync` and `--strict`, each at most once. `play` has, in any order, `--fold`,
-/// `--follow`, `--keep-going` and `--resume PATH`, each at most once; `--follow` does not stand with `--fold`, and `--keep-going`
-/// stands only with `--follow`. `soak` has the number of its load, 0 to 999,999,999. `live` has, in any order,
+/// `--follow`, `--keep-going`, `--long` and `--resume PATH`, each at most once; `--follow` does not stand with `--fold`, and
+/// `--keep-going` stands only with `--follow`, which implies `--long`. `soak` has the number of its load, 0 to 999,999,999. `live` has, in any order,
 /// `--feed PATH` 1 to 16 times, `--cycles N` once, `--join J` once and `--view SERVICE`, 0 to 65,535, at most 8 times.
 /// `audit` has, in any order, `--air PATH` once and `--nulls` at most once. An option with a value is one word with `=`, or two words, of which the second does not begin with `-`.
 /// A path is not empty and is not `-`. A number has one to nine digits and lies in its range. There are no short spellings.

@@ -17,6 +17,8 @@ pub struct PlayWords {
     pub follow: bool,
     /// Whether a line at fault is reported and passed over.
     pub keep_going: bool,
+    /// Whether the script may have more than 67,108,864 bytes, as with `follow`.
+    pub long: bool,
     /// The path of the checkpoint from which the run goes on.
     pub resume: Option<String>,
 }
@@ -28,13 +30,15 @@ fn play_flags(words: &[String]) -> Option<PlayWords>
     let fold = times(words, "--fold");
     let follow = times(words, "--follow");
     let keep_going = times(words, "--keep-going");
-    if fold > 1 || follow > 1 || fold + follow > 1 || keep_going > follow {
+    let long = times(words, "--long");
+    if fold > 1 || follow > 1 || fold + follow > 1 || keep_going > follow || long > 1 {
         return None;
     }
     Some(PlayWords {
         fold: fold == 1,
         follow: follow == 1,
         keep_going: keep_going == 1,
+        long: long == 1 || follow == 1,
         resume: None,
     })
 }
@@ -42,7 +46,7 @@ fn play_flags(words: &[String]) -> Option<PlayWords>
 fn is_flag(word: &str) -> bool
     ensures { result ≡ is_play_flag word.now }
 {
-    word == "--fold" || word == "--follow" || word == "--keep-going"
+    word == "--fold" || word == "--follow" || word == "--keep-going" || word == "--long"
 }
 
 // The words from the first on that is no option without a value.

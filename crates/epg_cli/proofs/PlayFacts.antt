@@ -8,9 +8,9 @@ use Rattle.epg_report.specs.declared.status.Origin.TheVariants.{Input, Feed, Rec
 use Rattle.epg_report.specs.declared.status.Outlet.TheVariants.{Air, Report}
 use Rattle.epg_report.specs.Told.{OpenerAsked, ReportTaken, SourceGave}
 use Rattle.epg_live.specs.Stops.{HasStatusCause}
-use Rattle.epg_play.specs.Leaves.{IsOfPlay, PlayRun}
+use Rattle.epg_play.specs.Leaves.{IsOfPlay, PlayRunWithin}
 use Rattle.epg_play.specs.Beginning.{IsOfResume}
-use Rattle.epg_play.specs.CheckpointRuns.{FoldRun, ResumeRun}
+use Rattle.epg_play.specs.CheckpointRuns.{FoldRunWithin, ResumeRunWithin}
 use Rattle.epg_follow.specs.Runs.{FollowResumeRun, FollowRun}
 use Rattle.epg_cli.specs.Plays.{PlayEnds}
 
@@ -43,11 +43,11 @@ module _ (opener : OpenerAsked) (input : SourceGave) (air report : ReportTaken) 
     report_cause = report_cause;
   }
 
-  pub play_ends : PlayRun input air report status → PlayEnds opener input air report status
-  play_ends run = fresh_ends run.known run.end run.input_cause run.air_cause run.report_cause
+  pub play_ends : (limit : ℕ) → PlayRunWithin limit input air report status → PlayEnds opener input air report status
+  play_ends limit run = fresh_ends run.known run.end run.input_cause run.air_cause run.report_cause
 
-  pub fold_ends : FoldRun input air report status → PlayEnds opener input air report status
-  fold_ends run = fresh_ends run.known run.end run.input_cause run.air_cause run.report_cause
+  pub fold_ends : (limit : ℕ) → FoldRunWithin limit input air report status → PlayEnds opener input air report status
+  fold_ends limit run = fresh_ends run.known run.end run.input_cause run.air_cause run.report_cause
 
   pub follow_ends : (keep : Bool) → FollowRun keep input air report status → PlayEnds opener input air report status
   follow_ends keep run = fresh_ends run.known run.end run.input_cause run.air_cause run.report_cause
@@ -65,8 +65,8 @@ module _ (opener : OpenerAsked) (input : SourceGave) (air report : ReportTaken) 
     report_cause = report_cause;
   }
 
-  pub resume_ends : (path : List ℕ) (fold : Bool) → ResumeRun path fold opener input air report status → PlayEnds opener input air report status
-  resume_ends path fold run = resumed_ends run.known run.end run.input_cause run.open_cause run.read_cause run.air_cause run.report_cause
+  pub resume_ends : (limit : ℕ) (path : List ℕ) (fold : Bool) → ResumeRunWithin limit path fold opener input air report status → PlayEnds opener input air report status
+  resume_ends limit path fold run = resumed_ends run.known run.end run.input_cause run.open_cause run.read_cause run.air_cause run.report_cause
 
   pub follow_resume_ends : (path : List ℕ) (keep : Bool) → FollowResumeRun path keep opener input air report status → PlayEnds opener input air report status
   follow_resume_ends path keep run = resumed_ends run.known run.end run.input_cause run.open_cause run.read_cause run.air_cause run.report_cause

@@ -2,7 +2,7 @@
 use Rattle.headend_live.specs.declared.watched.LivePlan.{LivePlan}
 use Rattle.std.specs.Prelude.{◌≡◌, ℕ, Bool, true, false, List, None, Some, String}
 use Rattle.command_words.specs.Commands.{texts}
-use Rattle.command_words.specs.Grammar.{ListenOptions, PlayOptions, Audit, Listen, Live, Play, Soak, command_of, followed, played}
+use Rattle.command_words.specs.Grammar.{ListenOptions, PlayOptions, Audit, Listen, Live, Play, Soak, command_of, followed, played, played_long}
 
 abbrev pub IsUsage : {Y : Type 0} → List (String Y) → Type 0
 IsUsage words = command_of (texts words) ≡ None
@@ -19,7 +19,17 @@ IsFold words = command_of (texts words) ≡ Some (Play (played true) None)
 abbrev pub IsResume : {Y : Type 0} → List (String Y) → List ℕ → Bool → Type 0
 IsResume words path fold = command_of (texts words) ≡ Some (Play (played fold) (Some path))
 
--- with `--follow`, and with `--keep-going` or without
+-- the same with `--long`
+abbrev pub IsLongPlay : {Y : Type 0} → List (String Y) → Type 0
+IsLongPlay words = command_of (texts words) ≡ Some (Play (played_long false) None)
+
+abbrev pub IsLongFold : {Y : Type 0} → List (String Y) → Type 0
+IsLongFold words = command_of (texts words) ≡ Some (Play (played_long true) None)
+
+abbrev pub IsLongResume : {Y : Type 0} → List (String Y) → List ℕ → Bool → Type 0
+IsLongResume words path fold = command_of (texts words) ≡ Some (Play (played_long fold) (Some path))
+
+-- with `--follow`, which implies `--long`, and with `--keep-going` or without
 abbrev pub IsFollow : {Y : Type 0} → List (String Y) → Bool → Type 0
 IsFollow words keep = command_of (texts words) ≡ Some (Play (followed keep) None)
 

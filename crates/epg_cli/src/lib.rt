@@ -4,7 +4,8 @@
 //! and nothing is then read, opened or sent. For each command one record says all of its run:
 //! `PlayRun`, `FoldRun`, `ResumeRun`, `FollowRun` and `FollowResumeRun` (with `--keep-going` or
 //! without), `ListenRun` (however it hears), `LiveRun`, `SoakRun` and `AuditRun`, each in the crate
-//! of its command. `listen` and `audit` send nothing; only `live`, `audit` and `play --resume` open
+//! of its command. With `--long` the first three are within the limit of a long script
+//! (`PlayRunWithin`, `FoldRunWithin` and `ResumeRunWithin`). `listen` and `audit` send nothing; only `live`, `audit` and `play --resume` open
 //! files; `soak` reads no input (`air_kept`, `opener_kept`, `input_kept`). `cause`, `open_cause` and
 //! `report` hold for all words: each fault has its cause.
 //!

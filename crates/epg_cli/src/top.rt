@@ -5,9 +5,10 @@ ghost use Rattle.si_causes.specs.Causes.{Rose};
 ghost use Rattle.epg_report.specs.Texts.{fault_line};
 ghost use Rattle.epg_report.specs.Told.{Reported, asked, gave, told};
 ghost use Rattle.command_words.specs.Commands.{said_play};
-ghost use Rattle.command_words.specs.Grammar.{ListenOptions, PlayOptions, Play, followed, played};
-ghost use Rattle.epg_play.specs.Leaves.{PlayRan};
-ghost use Rattle.epg_play.specs.CheckpointRuns.{FoldRan, ResumeRan};
+ghost use Rattle.command_words.specs.Grammar.{ListenOptions, PlayOptions, Play, followed, played, played_long};
+ghost use Rattle.epg_play.specs.Leaves.{PlayRan, PlayRanWithin};
+ghost use Rattle.epg_play.specs.Script.{long_limit};
+ghost use Rattle.epg_play.specs.CheckpointRuns.{FoldRan, FoldRanWithin, ResumeRan, ResumeRanWithin};
 ghost use Rattle.epg_follow.specs.Runs.{FollowRan, FollowResumeRan};
 ghost use Rattle.epg_listen.specs.Leaves.{ListenRan};
 ghost use Rattle.epg_live.specs.LiveRun.{LiveRan};
@@ -16,14 +17,14 @@ ghost use Rattle.epg_soak.specs.SoakRun.{SoakRan};
 ghost use Rattle.epg_audit.specs.Leaves.{AuditRan};
 ghost use Rattle.headend_live.specs.declared.watched.LivePlan.{LivePlan};
 ghost use Rattle.epg_cli.specs.Plays.{PlayEnds};
-ghost use Rattle.epg_cli.specs.Spelled.{IsUsage, IsPlay, IsFold, IsResume, IsFollow, IsFollowResume, SpellsFreshPlay, IsListen, SpellsListen, IsLive, IsSoak, IsAudit, SpellsAudit, SpellsSoak};
+ghost use Rattle.epg_cli.specs.Spelled.{IsUsage, IsPlay, IsFold, IsResume, IsLongPlay, IsLongFold, IsLongResume, IsFollow, IsFollowResume, SpellsFreshPlay, IsListen, SpellsListen, IsLive, IsSoak, IsAudit, SpellsAudit, SpellsSoak};
 
 use command_words::{Command, PlayWords, WordsStop, parse_words};
 use epg_audit::run_audit;
 use epg_follow::{run_follow_resumed, run_followed};
 use epg_listen::run_listen_as;
 use epg_live::run_live_files;
-use epg_play::{run_folded, run_play, run_resumed};
+use epg_play::{PlayAs, run_play_as, run_resumed_as};
 use epg_report::{Outlet, Status, out_of_memory};
 use epg_soak::run_soak;
 use si_causes::{Gate, Opener, Sink, Source, write_all};
@@ -52,6 +53,18 @@ fn run_play_words<O: Opener, S: Source, A: Sink, R: Sink>(
         → ResumeRan path fold O.files O.tried O.faults O.read_faults opener.old opener.new
         S.left S.faults input.old input.new
         A.written A.faults air.old air.new R.written R.faults report.old report.new result }
+    ensures plain_long { said_play play.now ≡ Play (played_long false) None
+        → PlayRanWithin long_limit S.left S.faults input.old input.new
+        A.written A.faults air.old air.new R.written R.faults report.old report.new result }
+    ensures fold_long { said_play play.now ≡ Play (played_long true) None
+        → FoldRanWithin long_limit S.left S.faults input.old input.new
+        A.written A.faults air.old air.new R.written R.faults report.old report.new result }
+    ensures resume_long { (path : List ℕ) (fold : Bool)
+        → said_play play.now ≡ Play (played_long fold) (Some path)
+        → ResumeRanWithin long_limit path fold
+        O.files O.tried O.faults O.read_faults opener.old opener.new
+        S.left S.faults input.old input.new
+        A.written A.faults air.old air.new R.written R.faults report.old report.new result }
     ensures follow { (keep : Bool) → said_play play.now ≡ Play (followed keep) None
         → FollowRan keep S.left S.faults input.old input.new
         A.written A.faults air.old air.new R.written R.faults report.old report.new result }
@@ -68,14 +81,17 @@ fn run_play_words<O: Opener, S: Source, A: Sink, R: Sink>(
         (told R.written R.faults report.old report.new) result }
 {
     let keep = play.keep_going;
+    let how = PlayAs {
+        fold: play.fold,
+        long: play.long,
+    };
     match &play.resume {
         Some(path) if play.follow => {
             run_follow_resumed(alloc, path.as_str(), keep, opener, input, air, report)
         }
-        Some(path) => run_resumed(alloc, path.as_str(), play.fold, opener, input, air, report),
+        Some(path) => run_resumed_as(alloc, path.as_str(), how, opener, input, air, report),
         None if play.follow => run_followed(alloc, keep, input, air, report),
-        None if play.fold => run_folded(alloc, input, air, report),
-        None => run_play(alloc, input, air, report),
+        None => run_play_as(alloc, how, input, air, report),
     }
 }
 
@@ -104,6 +120,18 @@ pub fn run<W: Threads + Wait + Sync, O: Opener, S: Source + Send, A: Sink + Send
         A.written A.faults air.old air.new R.written R.faults report.old report.new result }
     ensures resume { (path : List ℕ) (fold : Bool) → IsResume words.now path fold
         → ResumeRan path fold O.files O.tried O.faults O.read_faults opener.old opener.new
+        S.left S.faults input.old input.new
+        A.written A.faults air.old air.new R.written R.faults report.old report.new result }
+    // The same with `--long`, within the limit of a long script.
+    ensures play_long { IsLongPlay words.now → PlayRanWithin long_limit
+        S.left S.faults input.old input.new
+        A.written A.faults air.old air.new R.written R.faults report.old report.new result }
+    ensures fold_long { IsLongFold words.now → FoldRanWithin long_limit
+        S.left S.faults input.old input.new
+        A.written A.faults air.old air.new R.written R.faults report.old report.new result }
+    ensures resume_long { (path : List ℕ) (fold : Bool) → IsLongResume words.now path fold
+        → ResumeRanWithin long_limit path fold
+        O.files O.tried O.faults O.read_faults opener.old opener.new
         S.left S.faults input.old input.new
         A.written A.faults air.old air.new R.written R.faults report.old report.new result }
     ensures follow { (keep : Bool) → IsFollow words.now keep

@@ -2,10 +2,12 @@ use Rattle.std.proofs.Common.{◌≡◌, refl, true, false, [], List, ℕ, subst
 use Rattle.std.specs.Prelude.{Some, None, option_map, string_bytes}
 use Rattle.command_words.specs.Commands.{options_said, play_options_said, texts}
 use Rattle.epg_live.specs.Views.{plan_of}
-use Rattle.command_words.specs.Grammar.{command_of, followed, played, Play, Listen, Live, Soak, Audit}
+use Rattle.command_words.specs.Grammar.{command_of, followed, played, played_long, Play, Listen, Live, Soak, Audit}
 use Rattle.epg_report.specs.Texts.{fault_line}
 use Rattle.epg_report.specs.Told.{asked, gave, told}
 use Rattle.epg_report.proofs.Reporting.{reported}
+use Rattle.si_causes.specs.Text.{text_limit}
+use Rattle.epg_play.specs.Script.{long_limit}
 use Rattle.epg_play.proofs.PlayRuns.{play_memory}
 use Rattle.epg_listen.proofs.ListenRunFacts.{listen_memory}
 use Rattle.epg_listen.specs.Leaves.{ListenRun}
@@ -35,6 +37,9 @@ returns-in-Ok-Play g c =
       play = λ spelled. run.plain (play_is command (Play options resume) (Play (played false) None) spells spelled);
       fold = λ spelled. run.fold (play_is command (Play options resume) (Play (played true) None) spells spelled);
       resume = λ path fold spelled. run.resume path fold (play_is command (Play options resume) (Play (played fold) (Some path)) spells spelled);
+      play_long = λ spelled. run.plain_long (play_is command (Play options resume) (Play (played_long false) None) spells spelled);
+      fold_long = λ spelled. run.fold_long (play_is command (Play options resume) (Play (played_long true) None) spells spelled);
+      resume_long = λ path fold spelled. run.resume_long path fold (play_is command (Play options resume) (Play (played_long fold) (Some path)) spells spelled);
       follow = λ keep spelled. run.follow keep (play_is command (Play options resume) (Play (followed keep) None) spells spelled);
       follow_resume = λ path keep spelled. run.follow_resume path keep (play_is command (Play options resume) (Play (followed keep) (Some path)) spells spelled);
       listen = λ how spelled. absurd (play_listen command options resume how spells spelled);
@@ -64,6 +69,9 @@ returns-in-Ok-Listen g c =
       play = λ spelled. absurd (play_listen command (played false) None read spelled spells);
       fold = λ spelled. absurd (play_listen command (played true) None read spelled spells);
       resume = λ path fold spelled. absurd (play_listen command (played fold) (Some path) read spelled spells);
+      play_long = λ spelled. absurd (play_listen command (played_long false) None read spelled spells);
+      fold_long = λ spelled. absurd (play_listen command (played_long true) None read spelled spells);
+      resume_long = λ path fold spelled. absurd (play_listen command (played_long fold) (Some path) read spelled spells);
       follow = λ keep spelled. absurd (play_listen command (followed keep) None read spelled spells);
       follow_resume = λ path keep spelled. absurd (play_listen command (followed keep) (Some path) read spelled spells);
       listen = λ how spelled. listen_is (λ h. ListenRun h input report c.run_listen_as.result) command read how spells spelled run;
@@ -97,6 +105,9 @@ returns-in-Ok-Live g c =
       play = λ spelled. absurd (play_live command (played false) None read (plan_of words) spelled spells);
       fold = λ spelled. absurd (play_live command (played true) None read (plan_of words) spelled spells);
       resume = λ path fold spelled. absurd (play_live command (played fold) (Some path) read (plan_of words) spelled spells);
+      play_long = λ spelled. absurd (play_live command (played_long false) None read (plan_of words) spelled spells);
+      fold_long = λ spelled. absurd (play_live command (played_long true) None read (plan_of words) spelled spells);
+      resume_long = λ path fold spelled. absurd (play_live command (played_long fold) (Some path) read (plan_of words) spelled spells);
       follow = λ keep spelled. absurd (play_live command (followed keep) None read (plan_of words) spelled spells);
       follow_resume = λ path keep spelled. absurd (play_live command (followed keep) (Some path) read (plan_of words) spelled spells);
       listen = λ how spelled. absurd (listen_live command how read (plan_of words) spelled spells);
@@ -136,6 +147,9 @@ returns-in-Ok-Soak g c =
       play = λ spelled. absurd (play_soak command (played false) None read spelled spells);
       fold = λ spelled. absurd (play_soak command (played true) None read spelled spells);
       resume = λ path fold spelled. absurd (play_soak command (played fold) (Some path) read spelled spells);
+      play_long = λ spelled. absurd (play_soak command (played_long false) None read spelled spells);
+      fold_long = λ spelled. absurd (play_soak command (played_long true) None read spelled spells);
+      resume_long = λ path fold spelled. absurd (play_soak command (played_long fold) (Some path) read spelled spells);
       follow = λ keep spelled. absurd (play_soak command (followed keep) None read spelled spells);
       follow_resume = λ path keep spelled. absurd (play_soak command (followed keep) (Some path) read spelled spells);
       listen = λ how spelled. absurd (listen_soak command how read spelled spells);
@@ -169,6 +183,9 @@ returns-in-Ok-Audit g c =
       play = λ spelled. absurd (play_audit command (played false) None read said spelled spells);
       fold = λ spelled. absurd (play_audit command (played true) None read said spelled spells);
       resume = λ path fold spelled. absurd (play_audit command (played fold) (Some path) read said spelled spells);
+      play_long = λ spelled. absurd (play_audit command (played_long false) None read said spelled spells);
+      fold_long = λ spelled. absurd (play_audit command (played_long true) None read said spelled spells);
+      resume_long = λ path fold spelled. absurd (play_audit command (played_long fold) (Some path) read said spelled spells);
       follow = λ keep spelled. absurd (play_audit command (followed keep) None read said spelled spells);
       follow_resume = λ path keep spelled. absurd (play_audit command (followed keep) (Some path) read said spelled spells);
       listen = λ how spelled. absurd (listen_audit command how read said spelled spells);
@@ -197,9 +214,12 @@ returns-in-Err-Memory g c =
     record {
       usage = (λ e. absurd (memory_usage c.out_of_memory.result is e), λ none. absurd (memory_read ((rw c.in-Err-Memory.field-0-is at c.in-Err-Memory.ensures.usage).1 none)));
       usage_leaves = λ e. absurd (memory_usage c.out_of_memory.result is e);
-      play = λ spelled. play_memory input air report c.out_of_memory.result is;
-      fold = λ spelled. fold_memory input air report c.out_of_memory.result is;
-      resume = λ path fold spelled. resume_memory path fold opener input air report c.out_of_memory.result is refl;
+      play = λ spelled. play_memory text_limit input air report c.out_of_memory.result is;
+      fold = λ spelled. fold_memory text_limit input air report c.out_of_memory.result is;
+      resume = λ path fold spelled. resume_memory text_limit path fold opener input air report c.out_of_memory.result is refl;
+      play_long = λ spelled. play_memory long_limit input air report c.out_of_memory.result is;
+      fold_long = λ spelled. fold_memory long_limit input air report c.out_of_memory.result is;
+      resume_long = λ path fold spelled. resume_memory long_limit path fold opener input air report c.out_of_memory.result is refl;
       follow = λ keep spelled. follow_memory keep input air report c.out_of_memory.result is refl took;
       follow_resume = λ path keep spelled. follow_resume_memory path keep opener input air report c.out_of_memory.result is refl refl took;
       listen = λ how spelled. listen_memory how input report c.out_of_memory.result is;
@@ -230,6 +250,9 @@ returns-in-Err-Usage g c =
       play = λ spelled. absurd (some_none command (Play (played false) None) spelled none);
       fold = λ spelled. absurd (some_none command (Play (played true) None) spelled none);
       resume = λ path fold spelled. absurd (some_none command (Play (played fold) (Some path)) spelled none);
+      play_long = λ spelled. absurd (some_none command (Play (played_long false) None) spelled none);
+      fold_long = λ spelled. absurd (some_none command (Play (played_long true) None) spelled none);
+      resume_long = λ path fold spelled. absurd (some_none command (Play (played_long fold) (Some path)) spelled none);
       follow = λ keep spelled. absurd (some_none command (Play (followed keep) None) spelled none);
       follow_resume = λ path keep spelled. absurd (some_none command (Play (followed keep) (Some path)) spelled none);
       listen = λ how spelled. absurd (some_none command (Listen how) spelled none);
