@@ -7,8 +7,8 @@ use Rattle.std.specs.List.{All, AllByRecursion, cons_option}
 use Rattle.std.proofs.lemmas.Bool.{cases_lt}
 use Rattle.std.proofs.lemmas.List.{take_more}
 use Rattle.std.proofs.lemmas.List.Elements.{filter_map-append}
-use Rattle.cycle_laying.specs.declared.placed.Placed.{Placed}
-use Rattle.cycle_laying.specs.Laying.{IsPlaced, sent_at}
+use Rattle.air_model.specs.declared.placed.Placed.{Placed}
+use Rattle.air_model.specs.Laying.{IsPlaced, sent_at}
 use Rattle.air_audit.specs.declared.lanes.Lane.{Lane}
 use Rattle.air_audit.specs.Fronts.{ToCome, all_waiting, to_come_on}
 use Rattle.air_audit.specs.Audits.{on_pid}

@@ -4,7 +4,7 @@ use Rattle.std.specs.Prelude.{◌==◌, ◌&&◌, ◌||◌, not, if◌then◌els
 use Rattle.std.specs.Option.{ok_or}
 use Rattle.std.proofs.lemmas.Bool.{cases_lt}
 use Rattle.std.proofs.lemmas.List.{drop-take, drop-drop, drop_all}
-use Rattle.cycle_laying.specs.declared.placed.Placed.{Placed}
+use Rattle.air_model.specs.declared.placed.Placed.{Placed}
 use Rattle.air_model.specs.declared.rule.Rule.{Rule}
 use Rattle.air_model.specs.declared.rule.Rule.TheVariants.{Pointer, Bytes}
 use Rattle.air_audit.specs.declared.lanes.Lane.{Lane}

@@ -4,9 +4,9 @@ use Rattle.std.specs.Prelude.{◌==◌, if◌then◌else◌, slice_index}
 use Rattle.std.specs.List.{cons_option}
 use Rattle.std.proofs.lemmas.Bool.{cases_lt, cases_eq}
 use Rattle.std.proofs.lemmas.List.{drop-drop, drop_all, get_or_default}
-use Rattle.cycle_laying.specs.declared.placed.Placed.{Placed}
-use Rattle.cycle_laying.specs.Laying.{sent_at, IsPlaced}
-use Rattle.cycle_laying.proofs.Laid.{from_place}
+use Rattle.air_model.specs.declared.placed.Placed.{Placed}
+use Rattle.air_model.specs.Laying.{sent_at, IsPlaced}
+use Rattle.air_model.proofs.Laid.{from_place}
 use Rattle.air_audit.specs.declared.lanes.Lane.{Lane}
 use Rattle.air_audit.specs.Telling.{is_none}
 use Rattle.air_audit.specs.Audits.{on_pid}

@@ -7,7 +7,7 @@ use Rattle.std.proofs.lemmas.List.{get_or-map, map-set, length-map, length-set}
 use Rattle.std.proofs.lemmas.List.Sums.{sum_by-set, sum_by-cons, get_or-le-sum_by}
 use Rattle.std.proofs.lemmas.List.Elements.{All-set}
 use Rattle.std.proofs.Math.ListN.{get_or-eq_default}
-use Rattle.cycle_laying.specs.declared.placed.Placed.{Placed}
+use Rattle.air_model.specs.declared.placed.Placed.{Placed}
 use Rattle.ts_packets.specs.Packets.{Piece}
 use Rattle.air_model.specs.declared.rule.Rule.{Rule}
 use Rattle.air_audit.specs.declared.lanes.Lane.{Lane}

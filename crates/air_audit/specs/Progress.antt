@@ -1,8 +1,8 @@
 -- How far a cycle has come, as it is kept: its sections in their order, each linked to the next one of its PID, and a lane for each PID.
 use Rattle.std.specs.Prelude.{◌≡◌, ℕ, suc, ◌+◌, ◌-◌, ◌<◌, ◌≤◌, List, [], ◌∷◌, Bool, not, ◌&&◌, ◌==◌, if◌then◌else◌, length, get_or, slice_index, count_by, take, drop, map, vec_capacity, Option, Some, None, Result, Ok, Err}
 use Rattle.std.specs.List.{All}
-use Rattle.cycle_laying.specs.declared.placed.Placed.{Placed}
-use Rattle.cycle_laying.specs.Laying.{sent_at, IsPlaced}
+use Rattle.air_model.specs.declared.placed.Placed.{Placed}
+use Rattle.air_model.specs.Laying.{sent_at, IsPlaced}
 use Rattle.air_model.specs.declared.rule.Rule.{Rule}
 use Rattle.air_model.specs.declared.rule.Rule.TheVariants.{Bytes}
 use Rattle.air_audit.specs.declared.lanes.Lane.{Lane}

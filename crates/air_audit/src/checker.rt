@@ -45,7 +45,7 @@ impl Model for Checker {
 
 impl Checker {
     /// An auditor of the empty airing list, which is at an end. The quota, 1 to 10,000, is that of
-    /// the cycles, as a player's (`cycle_plan`). It takes no memory.
+    /// the cycles, as a player's (`air_model`). It takes no memory.
     pub fn open(alloc: Global, quota: u32, offsets: Offsets) -> Checker
         requires some { 1 ≤ quota }
         requires most { quota ≤ 10000 }

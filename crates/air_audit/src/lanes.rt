@@ -1,13 +1,12 @@
 // Lanes: how far a cycle has come on each PID.
 ghost use Rattle.std.specs.Prelude.{◌≡◌, ◌==◌, ◌≤◌, ℕ, List, [], length, true, false};
 ghost use Rattle.std.specs.List.{All};
-ghost use Rattle.cycle_laying.specs.Laying.{IsPlaced};
+ghost use Rattle.air_model.specs.Laying.{IsPlaced};
 ghost use Rattle.air_audit.specs.Telling.{told, told_start, told_further, begun_in, is_at_fill, is_none, is_pointer};
 ghost use Rattle.air_audit.specs.Progress.{to_come_of, rest_of, waiting_from, is_busy, AreLinked, IsWithin, IsMoved, HasBegun};
 
 use crate::payload::{behind_front, is_fill};
-use air_model::Rule;
-use cycle_laying::Placed;
+use air_model::{Placed, Rule};
 
 /// A PID of a cycle: the rest of its open section, from `at` up to `end` in the laid bytes, and the place of the section that begins
 /// next on it, or the number of sections.

@@ -3,13 +3,12 @@ ghost use Rattle.std.specs.Prelude.{◌≡◌, ◌<◌, ◌≤◌, [], ℕ, List
 ghost use Rattle.std.specs.List.{All, AllByRecursion};
 ghost use Rattle.air_model.specs.Air.{at_places};
 ghost use Rattle.section_codec.specs.SubTables.{AreFit};
-ghost use Rattle.cycle_laying.specs.Laying.{order_under};
+ghost use Rattle.air_model.specs.Laying.{order_under};
 ghost use Rattle.air_audit.specs.Progress.{is_busy, next_on, AreLinked, AreFresh, IsReady};
 ghost use Rattle.air_model.specs.Air.{CanBeTold};
 
 use crate::lanes::{Lane, is_busy};
-use cycle_laying::{Placed, plan_cycle};
-use cycle_plan::CyclePlan;
+use air_model::{CyclePlan, Placed, plan_cycle};
 use guide_model::Offset;
 use section_codec::SubTable;
 use std::alloc::{AllocError, Global};

@@ -5,7 +5,7 @@ ghost use Rattle.version_book.specs.Airings.{AiredTables, CycleForm};
 ghost use Rattle.version_book.specs.Book.{BookStandsFor, aired};
 ghost use Rattle.std.specs.List.{AllByRecursion};
 ghost use Rattle.air_model.specs.Air.{at_places, cycle_sections};
-ghost use Rattle.cycle_laying.specs.Laying.{IsPlaced, sent_at};
+ghost use Rattle.air_model.specs.Laying.{IsPlaced, sent_at};
 ghost use Rattle.air_audit.specs.Fronts.{nothing, all_waiting, to_come_on};
 ghost use Rattle.air_audit.specs.Telling.{told};
 ghost use Rattle.air_audit.specs.Checking.{is_nothing};
@@ -15,8 +15,7 @@ ghost use Rattle.air_model.specs.Air.{CanBeTold};
 
 use crate::lanes::{Lane, is_busy, moved};
 use crate::linking::{Room, count_busy, link, put_in_order, take_room};
-use air_model::Rule;
-use cycle_laying::{LaidSections, Placed};
+use air_model::{LaidSections, Placed, Rule};
 use guide_model::Offset;
 use section_codec::Tables;
 use si_time::Moment;

@@ -18,8 +18,8 @@ use Rattle.section_codec.specs.declared.table.NumberedBody.{NumberedBody}
 use Rattle.section_codec.specs.declared.table.SubTable.{SubTable}
 use Rattle.section_codec.specs.SubTables.{header_of}
 use Rattle.section_codec.proofs.ReadBack.{length-section_bytes}
-use Rattle.cycle_plan.specs.Cycle.{cycle_of}
-use Rattle.cycle_plan.specs.Sections.{planned}
+use Rattle.air_model.specs.Cycle.{cycle_of}
+use Rattle.air_model.specs.Sections.{planned}
 use Rattle.version_book.specs.Airings.{AiredTables, CycleForm, version_at}
 use Rattle.si_lists.proofs.Lists.{all_append}
 use Rattle.air_model.specs.Air.{Sent, sent_section, sections_of, table_sections, tdt, tot, times, before_tdt, behind_tdt, sections_once, weights_once, cycle_sections, sent_on}

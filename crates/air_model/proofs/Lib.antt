@@ -1,3 +1,14 @@
+pub mod Lists
+pub mod Leads
+pub mod Cuts
+pub mod Tiers
+pub mod Order
+pub mod Counts
+pub mod Gaps
+pub mod Packings
+pub mod Places
+pub mod Spaced
+pub mod Cursors
 pub mod Elements
 pub mod Planned
 pub mod Counted
@@ -6,3 +17,8 @@ pub mod Airs
 pub mod Repeating
 pub mod Nulls
 pub mod Bursts
+pub mod Laid
+pub mod Weights
+pub mod Begun
+pub mod Times
+pub mod Retelling

@@ -6,10 +6,10 @@ use Rattle.std.proofs.lemmas.List.{length-map}
 use Rattle.std.proofs.lemmas.List.Elements.{Contains-append_right, filter_map-append}
 use Rattle.section_codec.specs.declared.table.SubTable.{SubTable}
 use Rattle.section_codec.specs.declared.table.Tier3.TheVariants.{Fast}
-use Rattle.cycle_plan.specs.Cycle.{cycle_of}
-use Rattle.cycle_plan.specs.Sections.{planned}
-use Rattle.cycle_plan.proofs.Cursors.{planned_all}
-use Rattle.cycle_plan.proofs.Order.{cycles_are_whole}
+use Rattle.air_model.specs.Cycle.{cycle_of}
+use Rattle.air_model.specs.Sections.{planned}
+use Rattle.air_model.proofs.Cursors.{planned_all}
+use Rattle.air_model.proofs.Order.{cycles_are_whole}
 use Rattle.version_book.specs.Airings.{AiredTables, version_at}
 use Rattle.air_model.specs.Air.{sections_of, table_sections, times, before_tdt, behind_tdt, sections_once, weight, table_weights, weights_once, at_places}
 use Rattle.air_model.proofs.Elements.{first_of, around}

@@ -6,8 +6,8 @@ use Rattle.std.proofs.lemmas.List.Elements.{All-contains_itself, All-take, All-d
 use Rattle.si_lists.proofs.Lists.{all_append, all_map}
 use Rattle.section_codec.specs.declared.table.NumberedBody.{NumberedBody}
 use Rattle.section_codec.specs.declared.table.SubTable.{SubTable}
-use Rattle.cycle_plan.specs.Cycle.{cycle_of}
-use Rattle.cycle_plan.specs.Sections.{planned}
+use Rattle.air_model.specs.Cycle.{cycle_of}
+use Rattle.air_model.specs.Sections.{planned}
 use Rattle.version_book.specs.Airings.{AiredTables, version_at}
 use Rattle.air_model.specs.Air.{Sent, Aired, sent_section, sections_of, table_sections, tdt, tot, times, leads, before_tdt, behind_tdt, sections_once, weights_once, cycle_sections, Cycles}
 use Rattle.air_model.specs.Repeating.{IsTimeFrom, IsSentOf, AreSentOf, RepeatingCycles, AirsRepeat}

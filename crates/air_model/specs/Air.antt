@@ -13,8 +13,8 @@ use Rattle.time_tables.specs.LocalOffsets.{FitsOffset}
 use Rattle.time_tables.specs.Tdt.{tdt_section}
 use Rattle.time_tables.specs.Tot.{tot_section}
 use Rattle.version_book.specs.Airings.{AiredTables, CycleForm, version_at}
-use Rattle.cycle_plan.specs.Cycle.{cycle_of}
-use Rattle.cycle_plan.specs.Sections.{is_fast, planned}
+use Rattle.air_model.specs.Cycle.{cycle_of}
+use Rattle.air_model.specs.Sections.{is_fast, planned}
 use Rattle.ts_packets.specs.Packets.{Piece, Carries, packets_of}
 use Rattle.ts_packets.specs.Bytes.{Packet, HasFields, bytes_of_packet}
 use Rattle.ts_packets.specs.Counting.{of_pid, loads_on, Count}

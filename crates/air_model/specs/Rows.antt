@@ -6,8 +6,8 @@ use Rattle.section_codec.specs.declared.table.SubTable.{SubTable}
 use Rattle.section_codec.specs.declared.table.Tier3.{Tier3}
 use Rattle.section_codec.specs.declared.table.Tier3.TheVariants.{Fast, Near, Far}
 use Rattle.si_base.specs.Crc.{crc_of, crc_from}
-use Rattle.cycle_plan.specs.Cycle.{cycle_of}
-use Rattle.cycle_plan.specs.Sections.{planned}
+use Rattle.air_model.specs.Cycle.{cycle_of}
+use Rattle.air_model.specs.Sections.{planned}
 use Rattle.version_book.specs.Airings.{AiredTables}
 use Rattle.ts_packets.specs.Bytes.{bytes_of_packet}
 use Rattle.air_model.specs.Air.{Sent, Aired, weights_once, before_tdt, behind_tdt, cycle_sections, air_bytes}

@@ -4,10 +4,10 @@ use Rattle.std.specs.Prelude.{slice_index}
 use Rattle.std.proofs.lemmas.List.{map-append, drop-append-le}
 use Rattle.std.proofs.Math.ListN.{drop_of_length-le}
 use Rattle.std.proofs.lemmas.Bool.{cases_lt}
-use Rattle.heard_completions.specs.declared.done.DoneKey.{DoneKey}
-use Rattle.heard_completions.proofs.Dones.{dones_push}
+use Rattle.guide_receiver.specs.declared.done.DoneKey.{DoneKey}
+use Rattle.guide_receiver.proofs.Dones.{dones_push}
 use Rattle.guide_receiver.specs.Heard.{Hearing, ReceiverStandsFor}
-use Rattle.heard_completions.specs.Dones.{DoneAt, at_packet, dones_by, dones_of}
+use Rattle.guide_receiver.specs.Dones.{DoneAt, at_packet, dones_by, dones_of}
 use Rattle.air_monitor.specs.declared.done_line.DoneLine.{DoneLine}
 use Rattle.air_monitor.specs.Heard.{AppendsFrontOf, AreInSync, HearsBy, IsFrontOf, line_at, lines_at, lines_from}
 

@@ -2,9 +2,9 @@
 use Rattle.std.specs.Prelude.{◌≡◌, ℕ, ◌+◌, ◌<◌, List, ◌++◌, length, drop, map, slice_index, Bool, true, false, Option}
 use Rattle.std.specs.List.{AllByRecursion}
 use Rattle.std.specs.Io.KnownBytes.{Appends}
-use Rattle.heard_completions.specs.declared.done.DoneKey.{DoneKey}
+use Rattle.guide_receiver.specs.declared.done.DoneKey.{DoneKey}
 use Rattle.guide_receiver.specs.Heard.{Hearing, ReceiverStandsFor}
-use Rattle.heard_completions.specs.Dones.{DoneAt, dones_of}
+use Rattle.guide_receiver.specs.Dones.{DoneAt, dones_of}
 use Rattle.air_monitor.specs.declared.done_line.DoneLine.{DoneLine}
 use Rattle.ts_packets.specs.Packets.{joined}
 use Rattle.ts_packets.specs.WholePackets.{AreWhole, whole_packets}

@@ -1,7 +1,7 @@
 // What is heard of packets, from one on.
 ghost use Rattle.std.specs.Prelude.{◌≡◌, ◌++◌, ◌∷◌, [], List, ℕ, length, drop, false, true, slice_index, OnOk, OnErr};
 ghost use Rattle.guide_receiver.specs.Heard.{ReceiverStandsFor};
-ghost use Rattle.heard_completions.specs.Dones.{dones_by};
+ghost use Rattle.guide_receiver.specs.Dones.{dones_by};
 ghost use Rattle.air_monitor.specs.Heard.{AppendsFrontOf, AreInSync, Hears, HearsBy, lines_at};
 
 use crate::done_line::{DoneLines, push_lines};

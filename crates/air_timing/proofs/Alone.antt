@@ -7,7 +7,7 @@ use Rattle.std.proofs.lemmas.List.{get_or-set_same, get_or-set_other}
 use Rattle.section_codec.specs.declared.table.Tier3.{Tier3}
 use Rattle.section_codec.specs.declared.table.Tier3.TheVariants.{Fast, Near, Far}
 use Rattle.section_codec.specs.Tables.{tier_rank}
-use Rattle.cycle_plan.specs.Packing.{Packing, used_at_end}
+use Rattle.air_model.specs.Packing.{Packing, used_at_end}
 use Rattle.air_timing.specs.Pacing.{Timed, first_of, last_of, taken_at}
 use Rattle.air_timing.specs.PaceView.{Seen, seen_of, place_of, numbers, alone, AreOf, Puts, lane_of}
 use Rattle.air_timing.specs.declared.pace.Paced.{Paced}

@@ -4,7 +4,7 @@ use Rattle.std.specs.Prelude.{if◌then◌else◌, ◌==◌, ◌%◌, nat_lt, sl
 use Rattle.std.proofs.lemmas.Bool.{eqb-true, eqb-false, eq-eqb, ne_eqb, ltb-true, ltb-false, lt-ltb}
 use Rattle.std.proofs.lemmas.List.{drop_all, drop_more}
 use Rattle.std.proofs.Math.Nat.{suc-mod, mod_self, mod-lt, mod-eq_of_lt, zero-mod}
-use Rattle.cycle_plan.specs.Cutting.{joined}
+use Rattle.air_model.specs.Cutting.{joined}
 use Rattle.air_timing.specs.declared.timing.Timing.{Timing}
 use Rattle.air_timing.specs.Pacing.{Timed, Place, timing_of, timings, paced_one, paced_all, first_of, last_of}
 use Rattle.air_timing.specs.Frames.{Rest, bare, led_at, in_part, in_next, rest_from, fits, order_of}

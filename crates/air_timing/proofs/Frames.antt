@@ -6,8 +6,8 @@ use Rattle.std.proofs.lemmas.Bool.{ltb-true, eqb-true}
 use Rattle.std.proofs.Math.Nat.{mul-le-mul_right}
 use Rattle.si_lists.proofs.Lists.{all_behind, all_at}
 use Rattle.ts_packets.specs.Packets.{packets_of}
-use Rattle.cycle_plan.specs.Packing.{need_of, packets_so_far}
-use Rattle.cycle_plan.proofs.Packings.{starts_needing}
+use Rattle.air_model.specs.Packing.{need_of, packets_so_far}
+use Rattle.air_model.proofs.Packings.{starts_needing}
 use Rattle.air_timing.specs.Pacing.{Timed, Place, first_of, last_of, paced_one, paced_all, HaveBytes, IsNear}
 use Rattle.air_timing.specs.Frames.{Framed, Frame, Rest, start_of, begin_at, begin_of, bare, led_at, end_at, order_of, in_part, in_next, rest_from, Follow, FramesAreWhole, FramesAreShort, IsOther, AreOthers, packets, AreSized, LeadInTime, EndInTime, AreNear, LeadsInTime, FramesAreNear, LeadsRepeat}
 use Rattle.air_timing.proofs.Pacing.{closed_begins, begins_first, first_most, first_last, last_most, so_far_with, so_far_most, near_one}

@@ -5,8 +5,8 @@ use Rattle.std.specs.Prelude.{if◌then◌else◌, nat_le, ◌==◌}
 use Rattle.std.proofs.lemmas.Bool.{leb-true, leb-false, eqb-true, eq-eqb}
 use Rattle.si_lists.proofs.Lists.{all_at}
 use Rattle.ts_packets.specs.Packets.{packets_of}
-use Rattle.cycle_plan.specs.Packing.{Packing, begun_at, need_of, has_room_needing, taken_needing, packets_so_far}
-use Rattle.cycle_plan.proofs.Packings.{starts_needing, used_some, so_far-begun, one-more-needing}
+use Rattle.air_model.specs.Packing.{Packing, begun_at, need_of, has_room_needing, taken_needing, packets_so_far}
+use Rattle.air_model.proofs.Packings.{starts_needing, used_some, so_far-begun, one-more-needing}
 use Rattle.air_timing.specs.declared.timing.Timing.{Timing}
 use Rattle.air_timing.specs.Pacing.{Timed, Place, place_at, begins_in, packed_in, packing_for, packing_with, first_of, last_of, paced_one, paced_all, timing_of, timings, nulls_before, HaveBytes, GapsAreKept, CyclesAreApart, IsNear, WaitsAreShort}
 

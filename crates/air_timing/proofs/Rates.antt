@@ -1,7 +1,7 @@
 -- Rates, and spans that are right at them.
 use Rattle.std.proofs.Common.{◌≡◌, ℕ, zero, suc, ◌+◌, ◌*◌, ◌≤◌, List, ◌∷◌, ◌++◌, ap, ◌∙◌, arith, length}
 use Rattle.ts_packets.specs.Packets.{packets_of}
-use Rattle.cycle_plan.proofs.Lists.{packets-append}
+use Rattle.air_model.proofs.Lists.{packets-append}
 use Rattle.air_timing.specs.Pacing.{Timed}
 use Rattle.air_timing.specs.Frames.{packets}
 use Rattle.air_timing.specs.Rate.{gap_at, RatesLast, SpansAreRight}

@@ -3,8 +3,8 @@
 use Rattle.std.specs.Prelude.{◌≡◌, ℕ, zero, suc, ◌+◌, ◌*◌, ◌<◌, ◌≤◌, List, [], ◌∷◌, ◌++◌, Bool, if◌then◌else◌, nat_lt, length, flat_map}
 use Rattle.std.specs.List.{AllByRecursion}
 use Rattle.ts_packets.specs.Packets.{packets_of}
-use Rattle.cycle_plan.specs.Cutting.{packets_in}
-use Rattle.cycle_plan.specs.Packing.{packets_so_far}
+use Rattle.air_model.specs.Cutting.{packets_in}
+use Rattle.air_model.specs.Packing.{packets_so_far}
 use Rattle.air_timing.specs.Pacing.{Timed, Place, first_of, last_of, paced_one, paced_all, HaveBytes, IsNear}
 
 -- What frames are made by: the sections that stand in front of frame j, the packets of a frame, and

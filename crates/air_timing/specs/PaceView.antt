@@ -1,7 +1,7 @@
 -- What contracts see of a pace.
 use Rattle.std.specs.Prelude.{◌≡◌, ℕ, ◌+◌, ◌*◌, ◌<◌, ◌≤◌, List, slice_index_or}
 use Rattle.section_codec.specs.Tables.{tier_rank}
-use Rattle.cycle_plan.specs.Packing.{Packing}
+use Rattle.air_model.specs.Packing.{Packing}
 use Rattle.air_timing.specs.Pacing.{Timed, Place, first_of, last_of, paced_one}
 use Rattle.air_timing.specs.declared.pace.Paced.{Paced}
 use Rattle.air_timing.specs.declared.pace.Spacing.{Spacing}

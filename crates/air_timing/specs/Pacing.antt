@@ -3,9 +3,9 @@
 use Rattle.std.specs.Prelude.{◌≡◌, ℕ, ◌+◌, ◌-◌, ◌*◌, ◌<◌, ◌≤◌, List, [], ◌∷◌, ◌++◌, Bool, if◌then◌else◌, nat_le, ◌==◌, length}
 use Rattle.std.specs.List.{AllByRecursion}
 use Rattle.ts_packets.specs.Packets.{packets_of}
-use Rattle.cycle_plan.specs.Cutting.{packets_in}
+use Rattle.air_model.specs.Cutting.{packets_in}
 use Rattle.air_timing.specs.declared.timing.Timing.{Timing}
-use Rattle.cycle_plan.specs.Packing.{Packing, begun_at, need_of, begins_needing, taken_needing, packed_needing, packets_so_far}
+use Rattle.air_model.specs.Packing.{Packing, begun_at, need_of, begins_needing, taken_needing, packed_needing, packets_so_far}
 
 -- What is sent: of each section its lane, its bytes, and its sub-table as a number. Sections share
 -- packets only with sections of their lane, which is of one PID. `gap` whole packets are to lie between

@@ -2,7 +2,7 @@
 -- first and its last packet.
 use Rattle.std.specs.Prelude.{◌≡◌, ℕ, suc, ◌+◌, ◌-◌, ◌%◌, List, [], ◌∷◌, ◌++◌, ◌==◌, if◌then◌else◌, length, drop, slice_index_or}
 use Rattle.section_codec.specs.declared.table.Tier3.TheVariants.{Fast}
-use Rattle.cycle_plan.specs.Cutting.{joined}
+use Rattle.air_model.specs.Cutting.{joined}
 use Rattle.air_timing.specs.declared.pace.Paced.{Paced}
 use Rattle.air_timing.specs.declared.pace.Spacing.{Spacing}
 use Rattle.air_timing.specs.declared.timing.Timing.{Timing}

@@ -1,6 +1,6 @@
 // Where an air has come to, section by section.
 ghost use Rattle.std.specs.Prelude.{◌≡◌, ◌+◌, ◌^◌, ◌<◌, ◌≤◌, ℕ, IfOk, length, replicate, slice_index_or};
-ghost use Rattle.cycle_plan.specs.Packing.{begun_at, need_of, has_room_needing, taken_needing, used_at_end};
+ghost use Rattle.air_model.specs.Packing.{begun_at, need_of, has_room_needing, taken_needing, used_at_end};
 ghost use Rattle.air_timing.specs.Pacing.{Timed, begins_in, is_free_at, first_of, taken_at, last_of};
 ghost use Rattle.air_timing.specs.PaceView.{AreOf, Puts, place_of, alone, lane_of};
 

@@ -6,10 +6,9 @@ ghost use Rattle.guide_board.specs.Posts.{IsInOrder, services_of};
 ghost use Rattle.board_rows.specs.Stages.{IsAtTime};
 
 use guide_board::{NoService, NowNext, Slot};
-use guide_model::{Event, Events, Genres, ServiceGuide};
+use guide_model::{Event, Events, Genres, ServiceGuide, Txt};
 use page_share::{Page, PageGuide};
 use row_lines::{Row, moment_text, text_of};
-use si_text::Txt;
 use si_time::{Moment, read_duration};
 use std::alloc::{AllocError, Global};
 

@@ -11,8 +11,8 @@ use Rattle.ts_packets.specs.Packets.{joined, piece_of, left_by, Begin, HasSectio
 use Rattle.ts_packets.specs.Bytes.{Packet, packet_on, packets_dense}
 use Rattle.ts_packets.proofs.Carrying.{length-pieces}
 use Rattle.ts_packets.proofs.Dense.{HaveBytes, are_packed}
-use Rattle.cycle_plan.specs.Packing.{Start, Packing, begun_at, begins, packed_one, packed_all, packets_so_far, starts_dense}
-use Rattle.cycle_plan.proofs.Packings.{IsFresh, fresh-begins}
+use Rattle.air_model.specs.Packing.{Start, Packing, begun_at, begins, packed_one, packed_all, packets_so_far, starts_dense}
+use Rattle.air_model.proofs.Packings.{IsFresh, fresh-begins}
 use Rattle.air_model.specs.Air.{Sent, at_places}
 use Rattle.air_model.specs.Making.{bytes_of, each_dense, front_on, behind_on, count_behind, counted}
 use Rattle.air_model.proofs.Dense.{HaveSome, first_packets, both_parts, fewer, front_some, behind_all}

@@ -1,3 +1,6 @@
+pub mod Packs
+pub mod Steps
+pub mod Sendings
 pub mod Places
 pub mod Plays
 pub mod Stretches

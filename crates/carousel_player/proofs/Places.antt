@@ -5,9 +5,9 @@ use Rattle.std.specs.List.{AllByRecursion, cons_option}
 use Rattle.std.proofs.lemmas.Option.{slice_get_read}
 use Rattle.std.proofs.lemmas.List.{get_or_default}
 use Rattle.air_model.specs.Air.{Sent, at_places}
-use Rattle.cycle_laying.specs.declared.placed.Placed.{Placed}
-use Rattle.cycle_laying.specs.Laying.{IsPlaced, sent_at}
-use Rattle.section_packing.specs.Queue.{CanBeSent, IsBegun}
+use Rattle.air_model.specs.declared.placed.Placed.{Placed}
+use Rattle.air_model.specs.Laying.{IsPlaced, sent_at}
+use Rattle.carousel_player.specs.Queue.{CanBeSent, IsBegun}
 use Rattle.carousel_player.specs.Laying.{sections_left, order_left, AreToCome}
 
 -- a section that is placed can be sent

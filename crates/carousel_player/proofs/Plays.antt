@@ -19,13 +19,13 @@ use Rattle.ts_packets.specs.Counting.{StandFor}
 use Rattle.guide_model.specs.declared.offset.Offset.{Offset}
 use Rattle.air_model.specs.Air.{Sent, Aired, HasNoNull, air, airings_of, air_bytes, IsAirOf, sent_section, sections_of, table_sections, tot, times, leads, before_tdt, behind_tdt, sections_once, weights_once, cycle_sections}
 use Rattle.air_model.proofs.Planned.{all_at}
-use Rattle.cycle_plan.specs.Cycle.{cycle_of}
-use Rattle.cycle_plan.specs.Sections.{planned}
+use Rattle.air_model.specs.Cycle.{cycle_of}
+use Rattle.air_model.specs.Sections.{planned}
 use Rattle.air_model.specs.Making.{each_dense, counted}
 use Rattle.air_model.proofs.Counted.{counted-append, length-counted}
 use Rattle.air_model.proofs.Airs.{air-push, air_bytes-push, airings_of-push, no_null-dense, air_more-dense}
 use Rattle.section_codec.specs.SubTables.{IsFit}
-use Rattle.section_packing.specs.Sending.{Sends, SentAll, SentFront}
+use Rattle.carousel_player.specs.Sending.{Sends, SentAll, SentFront}
 use Rattle.carousel_player.specs.Playing.{Playing, AtEnd, Within, Begins, GaveUp}
 
 -- ---- a cycle begins

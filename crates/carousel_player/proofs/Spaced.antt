@@ -16,13 +16,13 @@ use Rattle.section_codec.specs.Contents.{Content}
 use Rattle.section_codec.specs.SubTables.{IsFit, AreFit, header_of}
 use Rattle.section_codec.specs.Tables.{tier_rank}
 use Rattle.section_codec.proofs.ReadBack.{length-section_bytes}
-use Rattle.cycle_plan.specs.Cycle.{Planned, cycle_of}
-use Rattle.cycle_plan.specs.Sections.{is_fast, AreInTiers, planned}
-use Rattle.cycle_plan.specs.Packing.{Start, begun_at, packed_all, packets_so_far, starts_dense, starts_of_cycles, IsPacked}
-use Rattle.cycle_plan.specs.Spacing.{AreSpaced, IsWithinLimits}
-use Rattle.cycle_plan.proofs.Cursors.{planned_all}
-use Rattle.cycle_plan.proofs.Order.{cycles_are_whole}
-use Rattle.cycle_plan.proofs.Spaced.{cycles_are_spaced, one_cycle_is_spaced}
+use Rattle.air_model.specs.Cycle.{Planned, cycle_of}
+use Rattle.air_model.specs.Sections.{is_fast, AreInTiers, planned}
+use Rattle.air_model.specs.Packing.{Start, begun_at, packed_all, packets_so_far, starts_dense, starts_of_cycles, IsPacked}
+use Rattle.air_model.specs.Spacing.{AreSpaced, IsWithinLimits}
+use Rattle.air_model.proofs.Cursors.{planned_all}
+use Rattle.air_model.proofs.Order.{cycles_are_whole}
+use Rattle.air_model.proofs.Spaced.{cycles_are_spaced, one_cycle_is_spaced}
 use Rattle.version_book.specs.Airings.{CycleForm, AiredTables, version_at}
 use Rattle.ts_packets.specs.Packets.{packets_of}
 use Rattle.ts_packets.specs.Bytes.{Packet}
@@ -36,13 +36,13 @@ use Rattle.time_tables.proofs.Offsets.{length-offsets_body}
 use Rattle.time_tables.proofs.Loops.{length-tot_section}
 use Rattle.air_model.proofs.Airs.{air-push}
 use Rattle.air_model.proofs.Planned.{weights_each}
-use Rattle.cycle_laying.specs.Planning.{weights_in, weights_of, time_weights, weights_under}
+use Rattle.air_model.specs.Planning.{weights_in, weights_of, time_weights, weights_under}
 use Rattle.carousel_player.specs.Spacing.{plan_of, pid_at, length_at, starts_of, starts_of_two, AreStarts, RunsBeginAlone, CanBeSpaced, MadeAirsAreSpaced, MadeCyclesAreSpaced, MadeNeighboursAreSpaced}
 use Rattle.section_codec.specs.Section.{longest_body}
 use Rattle.section_codec.specs.Tables.{is_eit}
-use Rattle.cycle_laying.proofs.Begun.{longest}
+use Rattle.air_model.proofs.Begun.{longest}
 use Rattle.carousel_player.proofs.DenseStarts.{AreOf, CycleStarts, cycle_starts}
-use Rattle.cycle_laying.proofs.Weights.{in_tiers, weights_given}
+use Rattle.air_model.proofs.Weights.{in_tiers, weights_given}
 
 -- ---- the sections of an airing
 

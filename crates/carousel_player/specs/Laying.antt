@@ -2,8 +2,8 @@
 use Rattle.std.specs.Prelude.{ℕ, ◌<◌, List, [], ◌∷◌, Option, Some, None, length, map}
 use Rattle.std.specs.List.{AllByRecursion}
 use Rattle.air_model.specs.Air.{Sent, at_places}
-use Rattle.cycle_laying.specs.declared.placed.Placed.{Placed}
-use Rattle.cycle_laying.specs.Laying.{IsPlaced, sent_at}
+use Rattle.air_model.specs.declared.placed.Placed.{Placed}
+use Rattle.air_model.specs.Laying.{IsPlaced, sent_at}
 
 -- the places still to come: that of the section that is being sent, and those behind it; none where none is being sent
 abbrev pub order_left : Option ℕ → List ℕ → List ℕ

@@ -1,3 +1,6 @@
+pub mod Queue
+pub mod Packing
+pub mod Sending
 pub mod Laying
 pub mod Spacing
 pub mod Playing

@@ -5,8 +5,8 @@ use Rattle.section_codec.specs.declared.table.NumberedBody.{NumberedBody}
 use Rattle.section_codec.specs.declared.table.SubTable.{SubTable}
 use Rattle.section_codec.specs.declared.table.Tier3.{Tier3}
 use Rattle.section_codec.specs.declared.table.Tier3.TheVariants.{Fast, Near, Far}
-use Rattle.cycle_plan.specs.Packing.{Start}
-use Rattle.cycle_plan.specs.Spacing.{fast_bound, near_bound}
+use Rattle.air_model.specs.Packing.{Start}
+use Rattle.air_model.specs.Spacing.{fast_bound, near_bound}
 use Rattle.version_book.specs.Airings.{AiredTables}
 use Rattle.air_model.specs.Air.{weights_once}
 use Rattle.carousel_player.specs.Spacing.{plan_of, starts_of}

@@ -3,10 +3,10 @@ use Rattle.std.specs.Prelude.{◌≡◌, ◌⊎◌, ℕ, ◌<◌, ◌≤◌, Lis
 use Rattle.std.specs.List.{AllByRecursion}
 use Rattle.section_codec.specs.declared.table.SubTable.{SubTable}
 use Rattle.section_codec.specs.SubTables.{AreFit}
-use Rattle.cycle_plan.specs.Cycle.{Planned, cycle_of}
-use Rattle.cycle_plan.specs.Sections.{is_fast, AreInTiers, planned}
-use Rattle.cycle_plan.specs.Packing.{Start, begun_at, starts_dense}
-use Rattle.cycle_plan.specs.Spacing.{AreSpaced}
+use Rattle.air_model.specs.Cycle.{Planned, cycle_of}
+use Rattle.air_model.specs.Sections.{is_fast, AreInTiers, planned}
+use Rattle.air_model.specs.Packing.{Start, begun_at, starts_dense}
+use Rattle.air_model.specs.Spacing.{AreSpaced}
 use Rattle.version_book.specs.Airings.{AiredTables, CycleForm}
 use Rattle.ts_packets.specs.Packets.{joined, piece_of}
 use Rattle.ts_packets.specs.Bytes.{Packet}

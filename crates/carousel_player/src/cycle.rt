@@ -7,9 +7,9 @@ ghost use Rattle.air_model.specs.Making.{each_dense};
 ghost use Rattle.section_codec.specs.SubTables.{AreFit};
 
 use crate::queue::CycleQueue;
+use crate::{PackedSections, PacketQueue};
 use guide_model::Offset;
 use section_codec::Tables;
-use section_packing::{PackedSections, PacketQueue};
 use si_time::Moment;
 use std::alloc::{AllocError, Global};
 use std::marker::Model;
@@ -25,8 +25,8 @@ pub(crate) struct Cycle {
 impl Model for Cycle {
     ghost use Rattle.std.specs.Prelude.{List};
     ghost use Rattle.ts_packets.specs.Bytes.{Packet};
-    ghost use Rattle.section_packing.specs.Queue.{IsBegun};
-    ghost use Rattle.section_packing.specs.Packing.{packets_behind};
+    ghost use Rattle.carousel_player.specs.Queue.{IsBegun};
+    ghost use Rattle.carousel_player.specs.Packing.{packets_behind};
 
     ghost Value = { List Packet };
 

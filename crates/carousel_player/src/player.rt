@@ -12,9 +12,9 @@ ghost use Rattle.air_model.specs.Air.{CanBeTold};
 ghost use Rattle.carousel_player.specs.Playing.{AtEnd, AreKeptOf, Within, Begins, GaveUp};
 
 use crate::cycle::Cycle;
+use crate::{BATCH, PacketQueue, send_all};
 use guide_model::Offsets;
 use section_codec::Tables;
-use section_packing::{BATCH, PacketQueue, send_all};
 use si_causes::{Failed, Sink};
 use si_time::Moment;
 use std::alloc::{AllocError, Global};
@@ -47,7 +47,7 @@ impl Model for Player {
 
 impl Player {
     /// A player that has handed out nothing and is at its end. The quota, 1 to 10,000, is the
-    /// number of packets of a run between two sendings of the sections of tier Fast (`cycle_plan`).
+    /// number of packets of a run between two sendings of the sections of tier Fast (`air_model`).
     /// The offsets, at most 16, are sent as the TOT of each cycle; where there are none, no TOT is
     /// sent. It takes no memory.
     pub fn open(alloc: Global, quota: u32, offsets: Offsets) -> Player
@@ -123,7 +123,7 @@ impl Player {
     /// number, at the moment of the swap (EN 300 468, 5.1.1), in a cycle of the player's form. The
     /// moment is sent as the cycle's TDT (EN 300 468, 5.2.5), and where there are offsets with
     /// these as its TOT (5.2.6); no packet tells the number. Each section is laid once, and is sent
-    /// as often as its tier and the quota say (`cycle_plan`); sections of one PID that follow each
+    /// as often as its tier and the quota say (`air_model`); sections of one PID that follow each
     /// other share packets (ISO/IEC 13818-1, 2.4.4). It needs a player at its end, a moment whose
     /// day has 16 bits, and sub-tables whose keys differ, in the order of their tiers (TR 101 211,
     /// 4.4), with PIDs below 8,191, each with at least one section, ascending numbers and bodies

@@ -4,14 +4,13 @@ ghost use Rattle.version_book.specs.Airings.{AiredTables, CycleForm};
 ghost use Rattle.version_book.specs.Book.{BookStandsFor, aired};
 ghost use Rattle.air_model.specs.Air.{cycle_sections, CanBeTold};
 ghost use Rattle.section_codec.specs.SubTables.{AreFit};
-ghost use Rattle.section_packing.specs.Queue.{IsBegun};
-ghost use Rattle.cycle_laying.specs.Laying.{IsPlaced};
+ghost use Rattle.carousel_player.specs.Queue.{IsBegun};
+ghost use Rattle.air_model.specs.Laying.{IsPlaced};
 
-use cycle_laying::{LaidSections, Placed, plan_cycle};
-use cycle_plan::CyclePlan;
+use crate::SectionQueue;
+use air_model::{CyclePlan, LaidSections, Placed, plan_cycle};
 use guide_model::Offset;
 use section_codec::Tables;
-use section_packing::SectionQueue;
 use si_time::Moment;
 use std::alloc::{AllocError, Global};
 use std::marker::Model;

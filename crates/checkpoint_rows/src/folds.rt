@@ -3,10 +3,10 @@ ghost use Rattle.std.specs.Prelude.{◌≡◌, ◌<◌, ◌≤◌, ◌^◌, [], 
 ghost use Rattle.journal_model.specs.Steps.{IsStepWithin};
 
 use crate::starts::mux_of;
-use air_sending::open_player;
 use cycle_player::CyclePlayer;
 use desk_checkpoint::write_checkpoint;
 use desk_core::Desk;
+use journal_air::open_player;
 use journal_model::Step;
 use row_lines::{Buffer, Lines};
 use script_lines::{ScriptItem, next_item};

@@ -6,8 +6,8 @@ use Rattle.air_model.specs.Making.{AreMade}
 use Rattle.air_model.specs.Repeating.{IsRepeatingAirOf}
 use Rattle.air_model.proofs.Airs.{AreMade-push}
 use Rattle.air_model.proofs.Repeating.{airs_repeat}
-use Rattle.air_paced.specs.Cycle.{AreTimed}
-use Rattle.air_paced.proofs.Growing.{timed_push}
+use Rattle.cycle_timing.specs.Cycle.{AreTimed}
+use Rattle.cycle_timing.proofs.Growing.{timed_push}
 use Rattle.cycle_player.specs.Airs.{cycle_at, AreMadeAt, IsAirAt}
 
 -- cycles, and one more

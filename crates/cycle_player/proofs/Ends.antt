@@ -2,7 +2,7 @@
 use Rattle.std.proofs.Common.{ℕ, List, [], ◌∷◌, ◌++◌, Option, Some, None}
 use Rattle.ts_packets.specs.Bytes.{Packet}
 use Rattle.air_model.specs.Air.{Aired, airings_of}
-use Rattle.air_paced.proofs.Airs.{timed_airs_are_airs}
+use Rattle.cycle_timing.proofs.Airs.{timed_airs_are_airs}
 use Rattle.cycle_player.specs.Airs.{IsAirAt}
 use Rattle.cycle_player.specs.Sending.{Sending, AtEndAt, AtEnd, WithinAt, Within}
 

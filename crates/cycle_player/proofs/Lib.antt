@@ -1,3 +1,12 @@
+pub mod Numbers
+pub mod Clocks
+pub mod Chosen
+pub mod Courses
+pub mod Queues
+pub mod Begun
+pub mod Plays
+pub mod TimedAirs
+pub mod TimedTallies
 pub mod Airs
 pub mod Sent
 pub mod Ends

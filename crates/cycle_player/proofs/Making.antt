@@ -7,9 +7,9 @@ use Rattle.ts_packets.specs.Bytes.{Packet}
 use Rattle.version_book.specs.Airings.{AiredTables}
 use Rattle.air_model.specs.Air.{Aired, airings_of}
 use Rattle.air_model.specs.Making.{AreMade}
-use Rattle.air_paced.specs.Clock.{Clock}
-use Rattle.air_paced.specs.Cycle.{AreTimed, clock_after}
-use Rattle.timed_player.specs.Clock.{capped}
+use Rattle.cycle_timing.specs.Clock.{Clock}
+use Rattle.cycle_timing.specs.Cycle.{AreTimed, clock_after}
+use Rattle.cycle_player.specs.Clock.{capped}
 use Rattle.cycle_player.specs.Airs.{AreMadeAt}
 use Rattle.cycle_player.specs.Sending.{Sending, AtEndAt, AtEnd}
 use Rattle.cycle_player.specs.Ticks.{told_by, tick_at}

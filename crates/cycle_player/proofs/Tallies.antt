@@ -2,9 +2,9 @@
 use Rattle.std.proofs.Common.{◌≡◌, ℕ, ◌+◌, ◌≤◌, List, [], ◌∷◌, ◌++◌, append-nil, append_assoc, Bool, true, false, Option, Some, None, refl, sym, ap, ◌∙◌, subst, arith}
 use Rattle.std.specs.Prelude.{if◌then◌else◌}
 use Rattle.version_book.specs.Airings.{AiredTables}
-use Rattle.air_paced.specs.Again.{IsRight, leads_in}
-use Rattle.timed_player.specs.Tally.{Tallied, is_right, larger, no_cycles, with_cycle, with_cycles}
-use Rattle.timed_player.proofs.Tallies.{Within, within_itself, within_larger, within_through, right_if, right_only_if, right_within, least_is_right}
+use Rattle.cycle_timing.specs.Again.{IsRight, leads_in}
+use Rattle.cycle_player.specs.Tally.{Tallied, is_right, larger, no_cycles, with_cycle, with_cycles}
+use Rattle.cycle_player.proofs.TimedTallies.{Within, within_itself, within_larger, within_through, right_if, right_only_if, right_within, least_is_right}
 use Rattle.cycle_player.specs.Tallies.{tallied_at, tally_of, TalliesTellWhetherKept, LeastRatesDo}
 
 -- ---- one cycle more

@@ -5,7 +5,7 @@ use Rattle.ts_packets.specs.Bytes.{Packet}
 use Rattle.air_model.specs.Air.{Aired, IsAirOf, air, airings_of}
 use Rattle.air_model.specs.Making.{AreMade, cycle_dense}
 use Rattle.air_model.specs.Repeating.{IsRepeatingAirOf}
-use Rattle.air_paced.specs.Cycle.{AreTimed, cycle_timed, clock_of}
+use Rattle.cycle_timing.specs.Cycle.{AreTimed, cycle_timed, clock_of}
 
 -- the packets of an airing's cycle after these cycles
 abbrev pub cycle_at : Option ℕ → List Aired → AiredTables → List Packet

@@ -1,3 +1,8 @@
+pub mod Clock
+pub mod Running
+pub mod Playing
+pub mod TimedPlayer
+pub mod Tally
 pub mod Airs
 pub mod Sent
 pub mod Sending

@@ -3,7 +3,7 @@ use Rattle.std.specs.Prelude.{◌≡◌, ℕ, ◌<◌, ◌*◌, List, [], ◌∷
 use Rattle.si_time.specs.declared.moment.Moment.{Moment}
 use Rattle.version_book.specs.Airings.{AiredTables}
 use Rattle.air_model.specs.Air.{Aired, airings_of}
-use Rattle.air_paced.specs.Cycle.{clock_after}
+use Rattle.cycle_timing.specs.Cycle.{clock_after}
 use Rattle.cycle_player.specs.Airs.{cycle_at, AreMadeAt}
 use Rattle.cycle_player.specs.Ticks.{told_by}
 

@@ -1,7 +1,7 @@
 -- What a player is.
 use Rattle.std.specs.Prelude.{ℕ, ◌≤◌, Option, Some, None}
-use Rattle.air_paced.specs.Clock.{Clock}
-use Rattle.timed_player.specs.Tally.{Tallied}
+use Rattle.cycle_timing.specs.Clock.{Clock}
+use Rattle.cycle_player.specs.Tally.{Tallied}
 use Rattle.cycle_player.specs.Sending.{Sending}
 use Rattle.cycle_player.specs.declared.player.Kind.{Kind}
 use Rattle.cycle_player.specs.declared.player.Kind.TheVariants.{Dense, Timed}

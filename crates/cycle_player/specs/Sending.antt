@@ -7,13 +7,13 @@ use Rattle.version_book.specs.declared.key_version.KeyVersion.{KeyVersion}
 use Rattle.ts_packets.specs.Bytes.{Packet, bytes_of_packet}
 use Rattle.ts_packets.specs.declared.pid_counter.PidCounter.{PidCounter}
 use Rattle.air_model.specs.Air.{Aired}
-use Rattle.air_paced.specs.Clock.{Clock}
+use Rattle.cycle_timing.specs.Clock.{Clock}
 use Rattle.carousel_player.specs.Playing.{Playing}
 use Rattle.carousel_player.specs.Playing as dense
-use Rattle.timed_player.specs.Playing.{TimedPlaying}
-use Rattle.timed_player.specs.Playing as timed
-use Rattle.timed_player.specs.declared.clock.Clock.{Clock as KeptClock}
-use Rattle.timed_player.specs.Tally.{Tallied}
+use Rattle.cycle_player.specs.Playing.{TimedPlaying}
+use Rattle.cycle_player.specs.Playing as timed
+use Rattle.cycle_player.specs.declared.clock.Clock.{Clock as KeptClock}
+use Rattle.cycle_player.specs.Tally.{Tallied}
 use Rattle.si_causes.specs.Causes.{AppendsFront}
 use Rattle.cycle_player.specs.Airs.{cycle_at}
 

@@ -1,8 +1,8 @@
 -- The tally of cycles at a bit rate or without one. Without one there is nothing to keep.
 use Rattle.std.specs.Prelude.{◌≡◌, ◌↔◌, ℕ, List, [], ◌∷◌, ◌++◌, Option, Some, None}
 use Rattle.version_book.specs.Airings.{AiredTables}
-use Rattle.air_paced.specs.Again.{IsRight, leads_in}
-use Rattle.timed_player.specs.Tally.{Tallied, least_rate, no_cycles, with_cycle, with_cycles}
+use Rattle.cycle_timing.specs.Again.{IsRight, leads_in}
+use Rattle.cycle_player.specs.Tally.{Tallied, least_rate, no_cycles, with_cycle, with_cycles}
 
 -- one more, that of this airing after others
 abbrev pub tallied_at : Option ℕ → List AiredTables → AiredTables → Tallied → Tallied

@@ -1,7 +1,7 @@
 -- The moment that a clock at a bit rate tells.
 use Rattle.std.specs.Prelude.{ℕ, ◌*◌, ◌-◌, ◌==◌, Option, Some, None, min, if◌then◌else◌}
 use Rattle.si_time.specs.declared.moment.Moment.{Moment}
-use Rattle.air_paced.specs.Clock.{Clock}
+use Rattle.cycle_timing.specs.Clock.{Clock}
 
 -- none while it stands at 0; no day has more than 16 bits
 abbrev pub told_by : Clock → Option Moment

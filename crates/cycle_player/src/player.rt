@@ -9,13 +9,14 @@ ghost use Rattle.section_codec.specs.SubTables.{AreFit};
 ghost use Rattle.version_book.specs.Airings.{AiredTables};
 ghost use Rattle.version_book.specs.Book.{AreKeyVersionsOf, aired, given_in, given_entries};
 ghost use Rattle.air_model.specs.Air.{Aired, CanBeTold};
-ghost use Rattle.timed_player.specs.Clock.{reads};
-ghost use Rattle.timed_player.specs.Tally.{no_cycles};
+ghost use Rattle.cycle_player.specs.Clock.{reads};
+ghost use Rattle.cycle_player.specs.Tally.{no_cycles};
 ghost use Rattle.cycle_player.specs.Ticks.{told_by, tick_at};
 ghost use Rattle.cycle_player.specs.Tallies.{tallied_at};
 ghost use Rattle.cycle_player.specs.Sending.{AtEnd, AreKeptAt, Within, Begins, GaveUp};
 ghost use Rattle.cycle_player.specs.Player.{CanBeRate};
 
+use crate::{Clock, PlayerState, Tally, TimedPlayer};
 use carousel_player::Player;
 use guide_model::Offsets;
 use section_codec::Tables;
@@ -23,7 +24,6 @@ use si_causes::{Failed, Sink};
 use si_time::Moment;
 use std::alloc::{AllocError, Global};
 use std::marker::Model;
-use timed_player::{Clock, PlayerState, Tally, TimedPlayer};
 use ts_packets::{PidCounter, TsPacket};
 use version_book::KeyVersions;
 
@@ -57,7 +57,7 @@ impl CyclePlayer {
     /// A player that has handed out nothing and is at its end. The rate, where there is one,
     /// 100,000 to 100,000,000 bits per second, is that at which what it hands out is to be sent.
     /// The quota, 1 to 10,000, is the number of packets of a run between two sendings of the
-    /// sections of tier Fast (`cycle_plan`); at a rate it has no effect. The offsets, at most 16,
+    /// sections of tier Fast (`air_model`); at a rate it has no effect. The offsets, at most 16,
     /// are sent as the TOT of each cycle; where there are none, no TOT is sent. It takes no memory.
     pub fn open(alloc: Global, rate: Option<u32>, quota: u32, offsets: Offsets) -> CyclePlayer
         requires rate { CanBeRate rate }

@@ -1,4 +1,4 @@
-//! Tests of cycles: `version_book`, `cycle_plan`, `carousel_player` and the counters of
+//! Tests of cycles: `version_book`, `air_model`, `carousel_player` and the counters of
 //! `ts_packets`.
 //!
 //! A line of `stdin` is a call with its arguments and the answer that is wanted (`run_rows`).

@@ -1,7 +1,7 @@
 // The order of a cycle, and how far apart it repeats its sections.
 ghost use Rattle.std.specs.Prelude.{◌<◌};
 
-use cycle_plan::{CyclePlan, plan};
+use air_model::{CyclePlan, plan};
 use row_lines::{MOST, Row};
 use section_codec::Tier3;
 

@@ -19,18 +19,18 @@ use Rattle.section_codec.proofs.ReadBack.{length-section_bytes, within}
 use Rattle.ts_packets.specs.Packets.{packets_of}
 use Rattle.time_tables.proofs.Loops.{length-tot_section}
 use Rattle.time_tables.proofs.Offsets.{length-offsets_body}
-use Rattle.cycle_plan.specs.Sections.{is_fast, planned}
+use Rattle.air_model.specs.Sections.{is_fast, planned}
 use Rattle.air_timing.specs.Rate.{IsRightSpan}
-use Rattle.air_paced.specs.Leads.{measure}
-use Rattle.air_paced.specs.Again.{IsRight, leads_in}
-use Rattle.cycle_laying.specs.Planning.{weights_of, time_weights, weights_under}
-use Rattle.cycle_laying.proofs.Weights.{weights_given}
+use Rattle.cycle_timing.specs.Leads.{measure}
+use Rattle.cycle_timing.specs.Again.{IsRight, leads_in}
+use Rattle.air_model.specs.Planning.{weights_of, time_weights, weights_under}
+use Rattle.air_model.proofs.Weights.{weights_given}
 use Rattle.version_book.specs.Airings.{AiredTables, version_at}
 use Rattle.air_timing.specs.declared.pace.Paced.{Paced}
 use Rattle.air_model.specs.Air.{Sent, sent_section, sections_of, table_sections, times, tot, before_tdt, behind_tdt, leads, sections_once, weights_once, CanBeTold}
 use Rattle.air_model.proofs.Dense.{eight}
-use Rattle.air_paced.specs.SubTables.{TableName, name_of, is_name, number_of}
-use Rattle.air_paced.specs.Planning.{paced_of, paced_in, fast_groups, plan_at, timings_of}
+use Rattle.cycle_timing.specs.SubTables.{TableName, name_of, is_name, number_of}
+use Rattle.cycle_timing.specs.Planning.{paced_of, paced_in, fast_groups, plan_at, timings_of}
 use Rattle.cycle_timing.specs.declared.listed.Listed.{Listed}
 use Rattle.cycle_timing.specs.Listing.{listed_section, listed_in, listed_of, time_listed, tot_listed, times_listed, listed_under, number_among, paced_as, paced_under, HasRange, IsSized}
 use Rattle.cycle_timing.specs.Plans.{weights_listed, plan_under, timings_with}

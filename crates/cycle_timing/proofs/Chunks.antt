@@ -3,15 +3,15 @@ use Rattle.std.proofs.Common.{◌≡◌, ℕ, suc, ◌+◌, ◌-◌, ◌<◌, �
 use Rattle.std.specs.Prelude.{if◌then◌else◌, nat_le, slice_index, flat_map}
 use Rattle.std.proofs.lemmas.Bool.{le-leb, lt-leb}
 use Rattle.section_codec.specs.Contents.{numbers_from}
-use Rattle.cycle_plan.specs.Cutting.{in_front, cut_from, cut, packets_in}
-use Rattle.cycle_plan.specs.Cycle.{at_least_one}
-use Rattle.cycle_plan.specs.Cursor.{upto}
+use Rattle.air_model.specs.Cutting.{in_front, cut_from, cut, packets_in}
+use Rattle.air_model.specs.Cycle.{at_least_one}
+use Rattle.air_model.specs.Cursor.{upto}
 use Rattle.si_lists.proofs.Parts.{lt_or}
 use Rattle.air_timing.specs.declared.pace.Paced.{Paced}
 use Rattle.air_timing.specs.Spreading.{spread}
-use Rattle.air_paced.specs.SubTables.{groups}
-use Rattle.air_paced.specs.Planning.{table_at, in_turns, body_of}
-use Rattle.air_paced.proofs.Leads.{length_numbers}
+use Rattle.cycle_timing.specs.SubTables.{groups}
+use Rattle.cycle_timing.specs.Planning.{table_at, in_turns, body_of}
+use Rattle.cycle_timing.proofs.PacedLeads.{length_numbers}
 use Rattle.cycle_timing.specs.Tiers.{tiers_of}
 use Rattle.cycle_timing.proofs.Grouping.{upto_push}
 

@@ -16,9 +16,9 @@ use Rattle.air_timing.specs.Rate.{gap_at, half_second, span_at, span_within}
 use Rattle.air_timing.proofs.Frames.{frames_are_short}
 use Rattle.air_timing.proofs.Courses.{plans_are_long}
 use Rattle.air_timing.proofs.EachTurn.{each_has_turn}
-use Rattle.air_paced.specs.Leads.{most_sections, in_turn, lead_from, leads_of, measure}
-use Rattle.air_paced.proofs.Leads.{largest_least, all_or}
-use Rattle.air_paced.proofs.Plans.{leads_length, lead_is, all_leads}
+use Rattle.cycle_timing.specs.Leads.{most_sections, in_turn, lead_from, leads_of, measure}
+use Rattle.cycle_timing.proofs.PacedLeads.{largest_least, all_or}
+use Rattle.cycle_timing.proofs.Plans.{leads_length, lead_is, all_leads}
 use Rattle.cycle_timing.specs.Plans.{AreNumbered, IsWithin, plan_with, timings_with, most_timings}
 
 -- ---- each lead has a section

@@ -6,8 +6,8 @@ use Rattle.std.proofs.lemmas.Bool.{eqb-true, eq-eqb}
 use Rattle.std.proofs.lemmas.List.{map_push, length-map}
 use Rattle.std.proofs.lemmas.List.Elements.{filter-append}
 use Rattle.section_codec.specs.Contents.{numbers_from}
-use Rattle.cycle_plan.specs.Cursor.{upto}
-use Rattle.air_paced.specs.SubTables.{distinct, groups}
+use Rattle.air_model.specs.Cursor.{upto}
+use Rattle.cycle_timing.specs.SubTables.{distinct, groups}
 use Rattle.cycle_timing.specs.Turns.{grouped}
 use Rattle.cycle_timing.proofs.Found.{found, found_push, found_within}
 

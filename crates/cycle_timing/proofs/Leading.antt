@@ -4,13 +4,13 @@ use Rattle.std.specs.List.{cons_option}
 use Rattle.std.proofs.lemmas.List.{take_more, map_more, map_push, length-take-le}
 use Rattle.ts_packets.specs.Packets.{packets_of}
 use Rattle.section_codec.specs.Contents.{numbers_from}
-use Rattle.cycle_plan.specs.Cutting.{packets_in}
-use Rattle.cycle_plan.proofs.Lists.{packets-append}
+use Rattle.air_model.specs.Cutting.{packets_in}
+use Rattle.air_model.proofs.Lists.{packets-append}
 use Rattle.air_timing.specs.declared.pace.Paced.{Paced}
 use Rattle.air_timing.specs.Plan.{section_at}
 use Rattle.air_timing.specs.Turns.{often_of, turn_of}
-use Rattle.air_paced.specs.Leads.{largest, in_turn, lead_from, lead_packets}
-use Rattle.air_paced.proofs.Leads.{lead_append}
+use Rattle.cycle_timing.specs.Leads.{largest, in_turn, lead_from, lead_packets}
+use Rattle.cycle_timing.proofs.PacedLeads.{lead_append}
 use Rattle.cycle_timing.proofs.Grouping.{numbers_more}
 
 largest_push : (ns : List ℕ) (n : ℕ) → largest (ns ++ n ∷ []) ≡ max (largest ns) n

@@ -6,7 +6,7 @@ use Rattle.std.specs.Result.{IfOk}
 use Rattle.std.specs.Prelude.{Result, Ok, Err}
 use Rattle.std.proofs.lemmas.List.{length-replicate}
 use Rattle.std.proofs.lemmas.List.Elements.{recursion_from_All}
-use Rattle.cycle_plan.specs.Packing.{Packing, begun_at}
+use Rattle.air_model.specs.Packing.{Packing, begun_at}
 use Rattle.air_timing.specs.declared.pace.Paced.{Paced}
 use Rattle.air_timing.specs.declared.pace.Spacing.{Spacing}
 use Rattle.air_timing.specs.Pacing.{place_at}
@@ -14,7 +14,7 @@ use Rattle.air_timing.specs.PaceView.{Seen, place_of}
 use Rattle.air_timing.specs.PlanView.{planned, IsPlan, CanCount}
 use Rattle.air_timing.specs.Plan.{Planned, plan_of}
 use Rattle.air_timing.specs.Rate.{gap_at, span_at}
-use Rattle.air_paced.specs.Leads.{leads_of, most_sections, measure}
+use Rattle.cycle_timing.specs.Leads.{leads_of, most_sections, measure}
 use Rattle.cycle_timing.specs.Plans.{plan_with, plan_from, timings_with, most_timings, AreNumbered, IsWithin}
 use Rattle.cycle_timing.proofs.Framing.{AllSome, is_plan, can_count_all, round_some}
 use Rattle.cycle_timing.proofs.Parts.{opened}

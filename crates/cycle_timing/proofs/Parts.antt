@@ -12,18 +12,18 @@ use Rattle.section_codec.specs.Contents.{numbers_from}
 use Rattle.section_codec.specs.declared.table.Tier3.{Tier3}
 use Rattle.section_codec.specs.declared.table.Tier3.TheVariants.{Fast}
 use Rattle.section_codec.proofs.KeyOrderFacts.{is_key-itself}
-use Rattle.cycle_plan.specs.Cursor.{upto}
-use Rattle.cycle_plan.specs.Cycle.{Planned as Tiers}
-use Rattle.cycle_plan.specs.Sections.{is_fast, is_near}
-use Rattle.cycle_plan.proofs.Cursors.{tiers_fit}
+use Rattle.air_model.specs.Cursor.{upto}
+use Rattle.air_model.specs.Cycle.{Planned as Tiers}
+use Rattle.air_model.specs.Sections.{is_fast, is_near}
+use Rattle.air_model.proofs.Cursors.{tiers_fit}
 use Rattle.air_timing.specs.declared.pace.Paced.{Paced}
 use Rattle.air_timing.specs.Pacing.{place_at}
 use Rattle.air_timing.specs.PaceView.{Seen, place_of}
-use Rattle.cycle_plan.specs.Packing.{Packing, begun_at}
+use Rattle.air_model.specs.Packing.{Packing, begun_at}
 use Rattle.air_timing.specs.Plan.{section_at}
-use Rattle.air_paced.specs.SubTables.{groups}
-use Rattle.air_paced.specs.Planning.{table_at, body_of, fast_groups}
-use Rattle.air_paced.proofs.Plans.{total, all_fast, all_body}
+use Rattle.cycle_timing.specs.SubTables.{groups}
+use Rattle.cycle_timing.specs.Planning.{table_at, body_of, fast_groups}
+use Rattle.cycle_timing.proofs.Plans.{total, all_fast, all_body}
 use Rattle.cycle_timing.specs.declared.listed.Listed.{Listed}
 use Rattle.cycle_timing.specs.Listing.{number_among, paced_as, paced_under, IsSized}
 use Rattle.cycle_timing.specs.Tiers.{tiers_of}

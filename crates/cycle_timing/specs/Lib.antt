@@ -1,3 +1,15 @@
+pub mod SubTables
+pub mod Leads
+pub mod Planning
+pub mod Clock
+pub mod Places
+pub mod Cycle
+pub mod OnAir
+pub mod Airs
+pub mod Apart
+pub mod Times
+pub mod Again
+pub mod PacedRows
 pub mod Turns
 pub mod Listing
 pub mod Tiers

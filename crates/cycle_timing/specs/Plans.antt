@@ -2,15 +2,15 @@
 use Rattle.std.specs.Prelude.{ℕ, ◌+◌, ◌*◌, ◌<◌, ◌≤◌, List, map, length}
 use Rattle.ts_packets.specs.Packets.{packets_of}
 use Rattle.section_codec.specs.declared.table.Tier3.{Tier3}
-use Rattle.cycle_plan.specs.Cycle.{Planned as Tiers}
-use Rattle.cycle_plan.specs.Sections.{planned}
+use Rattle.air_model.specs.Cycle.{Planned as Tiers}
+use Rattle.air_model.specs.Sections.{planned}
 use Rattle.air_timing.specs.declared.pace.Paced.{Paced}
 use Rattle.air_timing.specs.declared.timing.Timing.{Timing}
 use Rattle.air_timing.specs.Pacing.{place_at}
 use Rattle.air_timing.specs.Plan.{Planned, section_at, plan_of}
 use Rattle.air_timing.specs.Rate.{gap_at, span_at}
-use Rattle.air_paced.specs.Leads.{leads_of, measure}
-use Rattle.air_paced.specs.Planning.{plan_at}
+use Rattle.cycle_timing.specs.Leads.{leads_of, measure}
+use Rattle.cycle_timing.specs.Planning.{plan_at}
 use Rattle.cycle_timing.specs.declared.listed.Listed.{Listed}
 use Rattle.cycle_timing.specs.Listing.{paced_under}
 

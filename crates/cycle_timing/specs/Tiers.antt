@@ -1,6 +1,6 @@
 -- Sections of which so many are Fast, and so many Near, with their packets.
 use Rattle.std.specs.Prelude.{ℕ, ◌+◌, ◌-◌, List, length, slice_index}
-use Rattle.cycle_plan.specs.Cycle.{Planned}
+use Rattle.air_model.specs.Cycle.{Planned}
 
 -- no quota cuts the body
 abbrev pub tiers_of : ℕ → ℕ → List ℕ → Planned

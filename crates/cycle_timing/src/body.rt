@@ -1,9 +1,9 @@
 // The body of a cycle: for each chunk of Far, all of Near and then the chunk, each in turns.
 ghost use Rattle.std.specs.Prelude.{◌≡◌, ◌+◌, ◌-◌, ◌<◌, ◌≤◌, ◌++◌, ◌∷◌, ℕ, length, slice_index, IfOk, OnOk};
 ghost use Rattle.section_codec.specs.Contents.{numbers_from};
-ghost use Rattle.cycle_plan.specs.Cutting.{packets_in, cut_from, cut};
-ghost use Rattle.cycle_plan.specs.Cursor.{upto};
-ghost use Rattle.air_paced.specs.Planning.{in_turns, body_of};
+ghost use Rattle.air_model.specs.Cutting.{packets_in, cut_from, cut};
+ghost use Rattle.air_model.specs.Cursor.{upto};
+ghost use Rattle.cycle_timing.specs.Planning.{in_turns, body_of};
 ghost use Rattle.cycle_timing.specs.Tiers.{tiers_of};
 
 use crate::groups::groups_of;

@@ -3,9 +3,9 @@ ghost use Rattle.std.specs.Prelude.{◌≡◌, ◌<◌, ◌≤◌, ◌==◌, ℕ
 ghost use Rattle.std.specs.Option.{option_or};
 ghost use Rattle.std.specs.Ordering.{nat_cmp};
 ghost use Rattle.std.specs.BTreeMap.{get, IsOrdered};
-ghost use Rattle.cycle_plan.specs.Cursor.{upto};
-ghost use Rattle.air_paced.specs.SubTables.{groups};
-ghost use Rattle.air_paced.specs.Planning.{table_at};
+ghost use Rattle.air_model.specs.Cursor.{upto};
+ghost use Rattle.cycle_timing.specs.SubTables.{groups};
+ghost use Rattle.cycle_timing.specs.Planning.{table_at};
 ghost use Rattle.cycle_timing.specs.Turns.{grouped};
 
 use air_timing::Paced;

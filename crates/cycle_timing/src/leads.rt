@@ -4,7 +4,7 @@ ghost use Rattle.std.specs.List.{All, prefix_len, cons_option};
 ghost use Rattle.ts_packets.specs.Packets.{packets_of};
 ghost use Rattle.air_timing.specs.Plan.{section_at};
 ghost use Rattle.air_timing.specs.Turns.{round_of, turn_of};
-ghost use Rattle.air_paced.specs.Leads.{most_sections, in_turn, lead_from, leads_within, leads_of, lead_packets, most_packets, is_of_events, before_events, measure};
+ghost use Rattle.cycle_timing.specs.Leads.{most_sections, in_turn, lead_from, leads_within, leads_of, lead_packets, most_packets, is_of_events, before_events, measure};
 
 use air_timing::{Leads, Paced, often_of, round_of, turn_of};
 use si_base::Items;

@@ -2,7 +2,7 @@
 ghost use Rattle.std.specs.Prelude.{◌≡◌, ◌++◌, ◌<◌, map, count_by, IfOk, OnOk};
 ghost use Rattle.std.specs.List.{All, prefix_len};
 ghost use Rattle.section_codec.specs.SubTables.{IsFit};
-ghost use Rattle.cycle_plan.specs.Sections.{is_fast, is_near};
+ghost use Rattle.air_model.specs.Sections.{is_fast, is_near};
 ghost use Rattle.ts_packets.specs.Packets.{packets_of};
 ghost use Rattle.air_model.specs.Air.{CanBeTold, leads};
 ghost use Rattle.cycle_timing.specs.Listing.{listed_in, listed_of, tot_listed, times_listed, time_listed, listed_under, HasRange, IsSized};

@@ -3,13 +3,13 @@ ghost use Rattle.std.specs.Prelude.{◌≡◌, ◌-◌, ◌^◌, ◌<◌, ◌↔
 ghost use Rattle.std.specs.List.{All, AllByRecursion};
 ghost use Rattle.section_codec.specs.SubTables.{AreFit};
 ghost use Rattle.version_book.specs.Airings.{AiredTables};
-ghost use Rattle.cycle_plan.specs.Sections.{is_fast};
+ghost use Rattle.air_model.specs.Sections.{is_fast};
 ghost use Rattle.air_timing.specs.PlanView.{left_of, IsPlan, CanCount};
 ghost use Rattle.air_timing.specs.Rate.{IsRightSpan, gap_at, span_at};
 ghost use Rattle.air_model.specs.Air.{CanBeTold};
-ghost use Rattle.air_paced.specs.Again.{IsRight, leads_in};
-ghost use Rattle.air_paced.specs.Leads.{leads_of, measure, most_sections};
-ghost use Rattle.air_paced.specs.Planning.{fast_groups, timings_of};
+ghost use Rattle.cycle_timing.specs.Again.{IsRight, leads_in};
+ghost use Rattle.cycle_timing.specs.Leads.{leads_of, measure, most_sections};
+ghost use Rattle.cycle_timing.specs.Planning.{fast_groups, timings_of};
 ghost use Rattle.cycle_timing.specs.Listing.{IsSized, paced_under};
 ghost use Rattle.cycle_timing.specs.Plans.{plan_under, plan_with, plan_from, tiers_under, timings_with, most_timings, AreNumbered, IsWithin};
 

@@ -5,15 +5,15 @@ use Rattle.std.proofs.lemmas.Bool.{cases_Bool}
 use Rattle.std.proofs.lemmas.Bool.Decides.{nat_tests}
 use Rattle.version_book.specs.Book.{GivenVersions}
 use Rattle.ts_packets.specs.declared.pid_counter.PidCounter.{PidCounter}
-use Rattle.timed_player.specs.Clock.{reads}
+use Rattle.cycle_player.specs.Clock.{reads}
 use Rattle.mux_model.specs.declared.mux.Mux.{Mux}
 use Rattle.journal_model.specs.declared.step.Entry.{Entry}
 use Rattle.desk_core.specs.Journal.{publishes}
 use Rattle.desk_core.specs.Desks.{DeskState}
-use Rattle.command_text.specs.Lines.{line_text}
-use Rattle.command_text.specs.Back.{ahead_of}
-use Rattle.checkpoint_laws.specs.Steps.{checkpoint_steps, folded}
-use Rattle.checkpoint_laws.proofs.FoldFacts.{goes_on, steps_taken}
+use Rattle.journal_text.specs.Lines.{line_text}
+use Rattle.journal_text.specs.CommandBack.{ahead_of}
+use Rattle.desk_checkpoint.specs.Steps.{checkpoint_steps, folded}
+use Rattle.desk_checkpoint.proofs.FoldFacts.{goes_on, steps_taken}
 use Rattle.desk_checkpoint.specs.Fields.{count_fields}
 use Rattle.desk_checkpoint.specs.Reads.{behind_head, checkpoint_in}
 use Rattle.desk_checkpoint.specs.Text.{clock_text, counter_text, key_text, steps_text}

@@ -9,8 +9,8 @@ use Rattle.version_book.specs.Book.{AreKeyVersionsOf, AreOrdered, GivenVersion, 
 use Rattle.ts_packets.specs.declared.pid_counter.PidCounter.{PidCounter}
 use Rattle.ts_packets.specs.PidCounters.{ArePidCountersOf}
 use Rattle.air_model.specs.Air.{Aired}
-use Rattle.timed_player.specs.declared.clock.Clock.{Clock}
-use Rattle.timed_player.specs.Clock.{reads}
+use Rattle.cycle_player.specs.declared.clock.Clock.{Clock}
+use Rattle.cycle_player.specs.Clock.{reads}
 use Rattle.cycle_player.specs.Sending.{AreKeptAt, AtEnd, Sending}
 use Rattle.desk_checkpoint.specs.Text.{HasByteBodies}
 use Rattle.desk_checkpoint.specs.HandedOver.{HandsOver}

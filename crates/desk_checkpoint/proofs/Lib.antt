@@ -1,3 +1,10 @@
+pub mod ItemFacts
+pub mod FillFacts
+pub mod BookFacts
+pub mod GoFacts
+pub mod FoldFacts
+pub mod FoldingStepFacts
+pub mod AirFacts
 pub mod CountFacts
 pub mod ReadFacts
 pub mod RestFacts

@@ -14,8 +14,8 @@ use Rattle.section_codec.specs.declared.table.NumberedBody.{NumberedBody}
 use Rattle.section_codec.specs.Keys.{is_listed}
 use Rattle.section_codec.proofs.NamingFacts.{listed_range}
 use Rattle.ts_packets.specs.declared.pid_counter.PidCounter.{PidCounter}
-use Rattle.timed_player.specs.declared.clock.Clock.{Clock}
-use Rattle.timed_player.specs.Clock.{reads}
+use Rattle.cycle_player.specs.declared.clock.Clock.{Clock}
+use Rattle.cycle_player.specs.Clock.{reads}
 use Rattle.input_lines.specs.Fields.{record_of, fields_compute}
 use Rattle.input_lines.specs.Numbers.{number_in}
 use Rattle.input_lines.specs.Lines.{record_lines}
@@ -23,13 +23,13 @@ use Rattle.input_lines.specs.Ahead.{Ahead, Row, Tail, Found, Came, Stopped, NoCo
 use Rattle.journal_model.specs.declared.step.Step.{Step}
 use Rattle.script_lines.specs.Script.{read_command}
 use Rattle.script_lines.proofs.NumberBack.{low, number_back, numeral_back, digits_of, decimal_some, value_back}
-use Rattle.command_text.specs.Lines.{line_text, item_text}
-use Rattle.command_text.specs.Commands.{command_text, step_items}
-use Rattle.command_text.specs.Back.{IsRow, IsReadableCommand, ahead_of, command_lines, command_row, row_line, shown_lines}
-use Rattle.command_text.proofs.CleanRows.{line_first, line_shown}
-use Rattle.command_text.proofs.PlainFields.{is_written, written_kept, number_kept}
-use Rattle.command_text.proofs.CommandFields.{small_kept}
-use Rattle.command_text.proofs.CommandBack.{command_back, command_is_row, items_first, numbered, row_fields, row_first, step_rows}
+use Rattle.journal_text.specs.Lines.{line_text, item_text}
+use Rattle.journal_text.specs.Commands.{command_text, step_items}
+use Rattle.journal_text.specs.CommandBack.{IsRow, IsReadableCommand, ahead_of, command_lines, command_row, row_line, shown_lines}
+use Rattle.journal_text.proofs.CleanRows.{line_first, line_shown}
+use Rattle.journal_text.proofs.PlainFields.{is_written, written_kept, number_kept}
+use Rattle.journal_text.proofs.CommandFields.{small_kept}
+use Rattle.journal_text.proofs.CommandBack.{command_back, command_is_row, items_first, numbered, row_fields, row_first, step_rows}
 use Rattle.desk_checkpoint.specs.declared.part.Part.{Part}
 use Rattle.desk_checkpoint.specs.declared.part.Part.TheVariants.{Step as step, Version, Section, Counter, End}
 use Rattle.desk_checkpoint.specs.declared.head.Head.{Head}

@@ -19,10 +19,10 @@ use Rattle.journal_model.specs.declared.step.Entry.{Entry}
 use Rattle.journal_model.specs.Steps.{Command}
 use Rattle.desk_core.specs.Journal.{outcome_of, entry_after, journal_after, publishes}
 use Rattle.desk_core.specs.Desks.{DeskState}
-use Rattle.checkpoint_laws.specs.Going.{is_taken}
+use Rattle.desk_checkpoint.specs.Going.{is_taken}
 use Rattle.input_lines.specs.Ahead.{Tail, Came}
-use Rattle.command_text.specs.Lines.{line_text}
-use Rattle.command_text.specs.Back.{IsReadableCommand, ahead_of, command_lines}
+use Rattle.journal_text.specs.Lines.{line_text}
+use Rattle.journal_text.specs.CommandBack.{IsReadableCommand, ahead_of, command_lines}
 use Rattle.desk_checkpoint.specs.declared.part.Part.{Part}
 use Rattle.desk_checkpoint.specs.declared.part.Part.TheVariants.{Step as step, Version, Section, Counter, End}
 use Rattle.desk_checkpoint.specs.declared.head.Head.{Head}

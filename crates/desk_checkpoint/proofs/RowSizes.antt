@@ -8,9 +8,9 @@ use Rattle.std.proofs.lemmas.Fmt.{length-decimal-le}
 use Rattle.csv.specs.Writing.{default_writer, escaped, field_text, fields_text, needs_byte}
 use Rattle.guide_model.specs.declared.event.Genre.{Genre}
 use Rattle.journal_model.specs.Edits.{HasGenreNumbers}
-use Rattle.field_text.specs.Genres.{genre_text, genres_text}
+use Rattle.guide_model.specs.Genres.{genre_text, genres_text}
 use Rattle.si_time.specs.Moments.{moment_text, duration_text}
-use Rattle.command_text.specs.Back.{row_line}
+use Rattle.journal_text.specs.CommandBack.{row_line}
 use Rattle.script_lines.proofs.NumberBack.{low}
 
 -- ---- rows

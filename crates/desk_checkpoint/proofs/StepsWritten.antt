@@ -7,8 +7,8 @@ use Rattle.std.proofs.lemmas.Bool.Decides.{nat_tests}
 use Rattle.std.proofs.lemmas.List.Concat.{flat_map-cons}
 use Rattle.si_lists.proofs.Lists.{all_append, all_map, all_to_map, all_two}
 use Rattle.si_lists.proofs.Filters.{list_all-more}
-use Rattle.si_text.specs.Decoding.{IsKept}
-use Rattle.si_text.proofs.CutFacts.{coded_size-bounds}
+use Rattle.guide_model.specs.Decoding.{IsKept}
+use Rattle.guide_model.proofs.CutFacts.{coded_size-bounds}
 use Rattle.guide_model.specs.declared.event.Event.{Event}
 use Rattle.guide_model.specs.declared.event.Rating.{Rating}
 use Rattle.guide_model.specs.declared.guide.ServiceGuide.{ServiceGuide}
@@ -33,19 +33,19 @@ use Rattle.guide_limits.specs.Guides.{kept_after}
 use Rattle.guide_limits.specs.Standing.{names_in}
 use Rattle.guide_limits.specs.Limits.{is_small, is_capital, AreNamesWithin, IsRatingWithin, IsEventWithin, IsServiceWithin}
 use Rattle.guide_limits.proofs.NamesKept.{all_given, last_kept}
-use Rattle.eit_tables.proofs.StandingFacts.{OfEachItem, standing_all}
-use Rattle.eit_tables.proofs.TypedFacts.{IsGiven, edit_gives}
+use Rattle.publication.proofs.StandingFacts.{OfEachItem, standing_all}
+use Rattle.publication.proofs.TypedFacts.{IsGiven, edit_gives}
 use Rattle.desk_core.specs.Journal.{accepted, is_publish, publishes}
 use Rattle.desk_core.specs.Publications.{before_publish, guide_after, publication}
 use Rattle.desk_core.proofs.TypedFacts.{accepted_typed}
 use Rattle.desk_core.proofs.WithinFacts.{draft_within, publications_within}
-use Rattle.command_text.specs.Lines.{item_row}
-use Rattle.command_text.specs.Commands.{step_items}
-use Rattle.command_text.specs.Back.{IsReadableCommand, IsShort, command_row}
-use Rattle.command_text.proofs.PlainFields.{is_written, written_kept}
-use Rattle.checkpoint_laws.specs.Items.{event_item, filling, raw_rating, refilling}
-use Rattle.checkpoint_laws.specs.Steps.{checkpoint_steps, guide_steps, service_steps}
-use Rattle.checkpoint_laws.proofs.StepFacts.{steps_within}
+use Rattle.journal_text.specs.Lines.{item_row}
+use Rattle.journal_text.specs.Commands.{step_items}
+use Rattle.journal_text.specs.CommandBack.{IsReadableCommand, IsShort, command_row}
+use Rattle.journal_text.proofs.PlainFields.{is_written, written_kept}
+use Rattle.desk_checkpoint.specs.Items.{event_item, filling, raw_rating, refilling}
+use Rattle.desk_checkpoint.specs.Steps.{checkpoint_steps, guide_steps, service_steps}
+use Rattle.desk_checkpoint.proofs.FoldingStepFacts.{steps_within}
 use Rattle.desk_checkpoint.specs.Laws.{CanBeFolded, StepsAreReadable}
 use Rattle.desk_checkpoint.proofs.RowSizes.{duration_size, genres_size, moment_size, number_size, row_size, small_size}
 

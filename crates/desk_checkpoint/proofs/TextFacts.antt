@@ -8,8 +8,8 @@ use Rattle.std.proofs.lemmas.Bool.Decides.{nat_tests}
 use Rattle.std.proofs.lemmas.Grind.{flat_map-append}
 use Rattle.std.proofs.lemmas.List.{flat_map_more, take_more}
 use Rattle.si_lists.proofs.Filters.{list_all-more}
-use Rattle.si_text.specs.Control.{is_printing}
-use Rattle.si_text.specs.Decoding.{IsKept}
+use Rattle.guide_model.specs.Control.{is_printing}
+use Rattle.guide_model.specs.Decoding.{IsKept}
 use Rattle.guide_model.specs.declared.event.Event.{Event}
 use Rattle.guide_model.specs.declared.event.Rating.{Rating}
 use Rattle.guide_model.specs.declared.guide.Guide.{Guide}
@@ -25,11 +25,11 @@ use Rattle.desk_core.specs.Journal.{is_publish, publishes}
 use Rattle.desk_core.specs.Publications.{before_publish, guide_after, publication}
 use Rattle.desk_core.specs.Desks.{DeskState}
 use Rattle.desk_core.proofs.MomentFacts.{InRange, moment_range, written_steps}
-use Rattle.command_text.specs.Lines.{Line, and_fields, no_fields, ended, line_text}
-use Rattle.command_text.proofs.LineFacts.{ended_line}
-use Rattle.command_text.proofs.PlainFields.{printing_kept}
-use Rattle.checkpoint_laws.specs.Items.{put_edits}
-use Rattle.checkpoint_laws.specs.Steps.{guide_steps, publication_steps, service_steps}
+use Rattle.journal_text.specs.Lines.{Line, and_fields, no_fields, ended, line_text}
+use Rattle.journal_text.proofs.LineFacts.{ended_line}
+use Rattle.journal_text.proofs.PlainFields.{printing_kept}
+use Rattle.desk_checkpoint.specs.Items.{put_edits}
+use Rattle.desk_checkpoint.specs.Steps.{guide_steps, publication_steps, service_steps}
 use Rattle.desk_checkpoint.specs.Text.{desk_steps, edits_of, feed_steps, put_text, service_text, step_text, steps_text}
 
 -- ---- what is appended

@@ -7,14 +7,14 @@ use Rattle.section_codec.specs.declared.table.NumberedBody.{NumberedBody}
 use Rattle.section_codec.specs.KeyOrder.{key_cmp}
 use Rattle.version_book.specs.declared.key_version.KeyVersion.{KeyVersion}
 use Rattle.ts_packets.specs.declared.pid_counter.PidCounter.{PidCounter}
-use Rattle.timed_player.specs.declared.clock.Clock.{Clock}
+use Rattle.cycle_player.specs.declared.clock.Clock.{Clock}
 use Rattle.mux_model.specs.declared.mux.Mux.{Mux}
 use Rattle.journal_model.specs.declared.step.Step.{Step}
 use Rattle.journal_model.specs.declared.step.Outcome.{Outcome}
 use Rattle.journal_model.specs.declared.step.Outcome.TheVariants.{Published}
 use Rattle.desk_core.specs.Journal.{outcome_of, publishes}
 use Rattle.desk_core.specs.Desks.{DeskState, fresh, and_entry}
-use Rattle.checkpoint_laws.specs.Going.{is_taken}
+use Rattle.desk_checkpoint.specs.Going.{is_taken}
 use Rattle.desk_checkpoint.specs.declared.part.Part.{Part}
 use Rattle.desk_checkpoint.specs.declared.part.Part.TheVariants.{Step as step, Version, Section, Counter, End}
 

@@ -7,8 +7,8 @@ use Rattle.section_codec.specs.declared.table.Key.{Key}
 use Rattle.section_codec.specs.declared.table.NumberedBody.{NumberedBody}
 use Rattle.section_codec.specs.Keys.{is_listed}
 use Rattle.ts_packets.specs.declared.pid_counter.PidCounter.{PidCounter}
-use Rattle.air_paced.specs.Clock.{Clock}
-use Rattle.timed_player.specs.declared.clock.Clock.{Clock as KeptClock}
+use Rattle.cycle_timing.specs.Clock.{Clock}
+use Rattle.cycle_player.specs.declared.clock.Clock.{Clock as KeptClock}
 use Rattle.input_lines.specs.Numbers.{is_digit, is_word, number_in, numeral_of, value_from}
 use Rattle.desk_checkpoint.specs.declared.part.Part.{Part}
 use Rattle.desk_checkpoint.specs.declared.part.Part.TheVariants.{Version, Section, Counter, End}

@@ -7,8 +7,8 @@ use Rattle.version_book.specs.Book.{AreOrdered, given_entries}
 use Rattle.ts_packets.specs.declared.pid_counter.PidCounter.{PidCounter}
 use Rattle.ts_packets.specs.PidCounters.{IsPidCounter, kept_from}
 use Rattle.air_model.specs.Air.{Aired}
-use Rattle.timed_player.specs.declared.clock.Clock.{Clock}
-use Rattle.timed_player.specs.Clock.{reads}
+use Rattle.cycle_player.specs.declared.clock.Clock.{Clock}
+use Rattle.cycle_player.specs.Clock.{reads}
 use Rattle.cycle_player.specs.Sending.{AreKeptAt, AtEnd, Sending}
 use Rattle.desk_checkpoint.specs.Text.{HasByteBodies}
 

@@ -7,8 +7,8 @@ use Rattle.section_codec.specs.declared.table.NumberedBody.{NumberedBody}
 use Rattle.section_codec.specs.Contents.{Ascend}
 use Rattle.version_book.specs.Book.{GivenVersion, GivenVersions, AreOrdered, given_entries}
 use Rattle.ts_packets.specs.declared.pid_counter.PidCounter.{PidCounter}
-use Rattle.timed_player.specs.declared.clock.Clock.{Clock}
-use Rattle.timed_player.specs.Clock.{reads}
+use Rattle.cycle_player.specs.declared.clock.Clock.{Clock}
+use Rattle.cycle_player.specs.Clock.{reads}
 use Rattle.mux_model.specs.declared.mux.Mux.{Mux}
 use Rattle.mux_model.specs.Fed.{IsNamed, fed_services}
 use Rattle.mux_model.specs.Sound.{IsSound}
@@ -17,8 +17,8 @@ use Rattle.journal_model.specs.Steps.{Command, IsStepWithin, IsTypedStep}
 use Rattle.desk_core.specs.Journal.{Legal, publishes}
 use Rattle.desk_core.specs.Desks.{DeskState}
 use Rattle.input_lines.specs.Ahead.{Tail}
-use Rattle.command_text.specs.Back.{IsReadableCommand, ahead_of}
-use Rattle.checkpoint_laws.specs.Steps.{checkpoint_steps, folded}
+use Rattle.journal_text.specs.CommandBack.{IsReadableCommand, ahead_of}
+use Rattle.desk_checkpoint.specs.Steps.{checkpoint_steps, folded}
 use Rattle.section_codec.specs.Keys.{is_listed}
 use Rattle.desk_checkpoint.specs.Checkpoints.{Checkpoint, last_pid}
 use Rattle.desk_checkpoint.specs.Reads.{checkpoint_in, no_clock}

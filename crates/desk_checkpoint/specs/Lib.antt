@@ -1,3 +1,8 @@
+pub mod Items
+pub mod Steps
+pub mod Going
+pub mod FoldingLaws
+mod FoldingRows
 pub mod Fields
 pub mod Parts
 pub mod Checkpoints

@@ -2,7 +2,7 @@
 use Rattle.std.specs.Prelude.{ℕ, Bool, zero, suc, List, length, Option, Some, None, Ok, Err, Result, option_and_then, option_map, if◌then◌else◌}
 use Rattle.input_lines.specs.Fields.{record_of}
 use Rattle.input_lines.specs.Ahead.{Ahead, Found, Came, Stopped, Stop, NoCommand, and_then, first_row, missing_at, on_line}
-use Rattle.timed_player.specs.declared.clock.Clock.{Clock}
+use Rattle.cycle_player.specs.declared.clock.Clock.{Clock}
 use Rattle.mux_model.specs.declared.mux.Mux.{Mux}
 use Rattle.journal_model.specs.Steps.{Command}
 use Rattle.script_lines.specs.Script.{read_command}

@@ -7,14 +7,14 @@ use Rattle.hex.proofs.OnLiterals.{hex_on_literals}
 use Rattle.si_time.specs.Moments.{moments_compute}
 use Rattle.section_codec.specs.declared.table.Key.{Key}
 use Rattle.section_codec.specs.declared.table.NumberedBody.{NumberedBody}
-use Rattle.air_paced.specs.Clock.{Clock}
+use Rattle.cycle_timing.specs.Clock.{Clock}
 use Rattle.mux_model.specs.declared.mux.Mux.{Mux}
 use Rattle.mux_model.specs.Rows.{row_mux}
 use Rattle.desk_core.specs.Desks.{fresh}
 use Rattle.input_lines.specs.Fields.{fields_compute}
 use Rattle.input_lines.specs.Ahead.{Ends, NoCommand}
-use Rattle.command_text.specs.Back.{ahead_of}
-use Rattle.checkpoint_laws.specs.Steps.{checkpoint_steps}
+use Rattle.journal_text.specs.CommandBack.{ahead_of}
+use Rattle.desk_checkpoint.specs.Steps.{checkpoint_steps}
 use Rattle.desk_checkpoint.specs.Fields.{part_of}
 use Rattle.desk_checkpoint.specs.Reads.{checkpoint_in, no_clock}
 use Rattle.desk_checkpoint.specs.Text.{checkpoint_text, counter_text, key_text}

@@ -7,10 +7,10 @@ use Rattle.input_lines.specs.declared.stop.EditStop.TheVariants as edits
 use Rattle.input_lines.specs.Ahead.{Stop, NoCommand, TooLong}
 use Rattle.air_model.specs.Air.{Aired}
 use Rattle.cycle_player.specs.Sending.{AtEnd, AreKeptAt}
-use Rattle.timed_player.specs.Tally.{no_cycles}
+use Rattle.cycle_player.specs.Tally.{no_cycles}
 use Rattle.mux_model.specs.declared.mux.Mux.{Mux}
-use Rattle.air_sending.specs.OnAir.{IsPlayerOf}
-use Rattle.checkpoint_laws.specs.Steps.{shift_of}
+use Rattle.journal_air.specs.OnAir.{IsPlayerOf}
+use Rattle.desk_checkpoint.specs.Steps.{shift_of}
 use Rattle.desk_checkpoint.specs.declared.start.CheckStop.{CheckStop}
 use Rattle.desk_checkpoint.specs.declared.start.CheckStop.TheVariants.{Line, Read, Memory}
 use Rattle.desk_checkpoint.specs.declared.start.Start.{Start}

@@ -6,7 +6,7 @@ use Rattle.section_codec.specs.declared.table.NumberedBody.{NumberedBody}
 use Rattle.version_book.specs.Book.{GivenVersion, GivenVersions}
 use Rattle.ts_packets.specs.declared.pid_counter.PidCounter.{PidCounter}
 use Rattle.ts_packets.specs.PidCounters.{kept_from}
-use Rattle.air_paced.specs.Clock.{Clock}
+use Rattle.cycle_timing.specs.Clock.{Clock}
 use Rattle.cycle_player.specs.Sending.{Sending}
 use Rattle.guide_model.specs.declared.event.Event.{Event}
 use Rattle.guide_model.specs.declared.guide.ServiceGuide.{ServiceGuide}
@@ -18,10 +18,10 @@ use Rattle.journal_model.specs.Steps.{Command}
 use Rattle.desk_core.specs.Journal.{publishes}
 use Rattle.desk_core.specs.Publications.{guide_after, publication}
 use Rattle.desk_core.specs.Desks.{DeskState}
-use Rattle.command_text.specs.Lines.{line_text}
-use Rattle.command_text.specs.Commands.{command_text}
-use Rattle.checkpoint_laws.specs.Items.{event_item, filling, refilling}
-use Rattle.checkpoint_laws.specs.Steps.{steps_of}
+use Rattle.journal_text.specs.Lines.{line_text}
+use Rattle.journal_text.specs.Commands.{command_text}
+use Rattle.desk_checkpoint.specs.Items.{event_item, filling, refilling}
+use Rattle.desk_checkpoint.specs.Steps.{steps_of}
 use Rattle.desk_checkpoint.specs.Fields.{clock_fields, count_fields, counter_fields, section_fields, version_fields}
 
 abbrev pub step_text : Command → List ℕ

@@ -1,7 +1,7 @@
 //! The text of a checkpoint: what a headend writes when it stops, and what it goes on from.
 //!
 //! A checkpoint has the count of publications, the clock of the air where the multiplex has a bit
-//! rate, the steps of `checkpoint_laws`, the last version and content of each key that was on air,
+//! rate, the steps of `desk_checkpoint`, the last version and content of each key that was on air,
 //! and the continuity counters. [`write_checkpoint`] appends that text for a desk and for a player
 //! at the end of a cycle, or nothing where memory runs out (`text`, `handed`, `kept`).
 //! [`read_checkpoint`] gives exactly the checkpoint that the lines are, as a desk and a player that
@@ -14,8 +14,17 @@
 //! players that go on.
 //!
 //! Not promised: that `Memory` comes only where memory runs out.
+//!
+//! A journal folded into a few steps, after which a desk goes on as after the whole journal.
+//!
+//! It has no code, only definitions and laws. A fresh desk accepts each of these steps, they put
+//! nothing on air, and then the desk has the journal's book, moment and latest publication
+//! (`checkpoints_are_taken`). The numbers of its publications are lower by a fixed number, the
+//! shift. Whatever is asked next gets equal replies and outcomes up to that shift, and puts the
+//! same on air (`desks_go_on`). A desk that went on can be folded again (`checkpoints_fold_again`).
 #![tactic(auto)]
 
+mod folding_laws;
 mod head;
 mod laws;
 mod part;
@@ -26,6 +35,7 @@ mod reading;
 mod start;
 mod text;
 
+pub use folding_laws::{checkpoints_are_taken, checkpoints_fold_again, desks_go_on};
 pub use laws::checkpoints_read_back;
 pub use raising::raise;
 pub use read::read_checkpoint;

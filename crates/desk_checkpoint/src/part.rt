@@ -7,12 +7,12 @@ ghost use Rattle.desk_checkpoint.specs.Checkpoints.{is_end};
 ghost use Rattle.desk_checkpoint.specs.Parts.{IsFitPart};
 
 use cycle_player::Clock;
+use guide_model::Txt;
 use hex::FromHexError;
 use input_lines::{is_word, number, numeral};
 use journal_model::Step;
 use section_codec::{Key, NumberedBody, is_listed};
 use si_base::Items;
-use si_text::Txt;
 use std::alloc::{AllocError, Global};
 use ts_packets::PidCounter;
 

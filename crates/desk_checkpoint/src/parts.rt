@@ -8,10 +8,10 @@ ghost use Rattle.desk_checkpoint.specs.Parts.{IsFitPart};
 ghost use Rattle.desk_checkpoint.specs.Reads.{first_part, part_on};
 
 use crate::part::{Part, begins_step, read_part};
+use guide_model::Txt;
 use input_lines::{EditStop, LineFields, fields, next_record_line};
 use script_lines::read_command;
 use si_causes::{LineReader, Source};
-use si_text::Txt;
 use std::alloc::Global;
 
 // The fields of line `at`.

@@ -1,6 +1,6 @@
 // Outcomes with the numbers of publications of the journal that goes on.
 ghost use Rattle.std.specs.Prelude.{◌≡◌, ◌+◌, ◌<◌, ◌^◌, IsTrue};
-ghost use Rattle.checkpoint_laws.specs.Going.{raised};
+ghost use Rattle.desk_checkpoint.specs.Going.{raised};
 ghost use Rattle.desk_checkpoint.specs.Raising.{CanBeRaised};
 
 use journal_model::Outcome;

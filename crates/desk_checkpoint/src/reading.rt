@@ -6,7 +6,7 @@ ghost use Rattle.mux_model.specs.Sound.{IsSound};
 ghost use Rattle.air_model.specs.Air.{CanBeTold};
 ghost use Rattle.journal_air.specs.Air.{mux_form};
 ghost use Rattle.journal_model.specs.Steps.{IsStepWithin};
-ghost use Rattle.checkpoint_laws.specs.Going.{is_taken};
+ghost use Rattle.desk_checkpoint.specs.Going.{is_taken};
 ghost use Rattle.desk_checkpoint.specs.Parts.{IsFitPart};
 ghost use Rattle.desk_checkpoint.specs.Checkpoints.{and_current, comes_behind, counted, is_nil, is_none, last_pid, published_by, steps_may_come, whole, with_counter, with_part, with_section, with_step, with_version};
 ghost use Rattle.desk_checkpoint.specs.Answers.{Answers};

@@ -4,7 +4,7 @@ use Rattle.std.specs.Prelude.{sum_by}
 use Rattle.std.specs.List.{AllByRecursion}
 use Rattle.std.proofs.lemmas.Bool.{cases_Bool}
 use Rattle.std.proofs.lemmas.List.Sums.{sum_by-cons}
-use Rattle.longest_runs.proofs.RunFacts.{runs_few}
+use Rattle.si_lists.proofs.RunFacts.{runs_few}
 use Rattle.eit_segments.specs.declared.event.EventAt.{EventAt}
 use Rattle.eit_segments.specs.Placement.{start_block, end_at, in_block, AreInOrder}
 use Rattle.eit_segments.specs.Schedule.{FitSegments}

@@ -4,8 +4,8 @@ use Rattle.std.specs.List.{AllByRecursion}
 use Rattle.std.proofs.Math.Seq.{drop-cons}
 use Rattle.std.proofs.lemmas.Bool.Decides.{leb_tells}
 use Rattle.std.proofs.lemmas.List.{length-append}
-use Rattle.longest_runs.specs.Runs.{cut}
-use Rattle.longest_runs.proofs.RunFacts.{cut_some, cut_joins, cut_begins, runs_from_nothing}
+use Rattle.si_lists.specs.Runs.{cut}
+use Rattle.si_lists.proofs.RunFacts.{cut_some, cut_joins, cut_begins, runs_from_nothing}
 use Rattle.eit_segments.specs.declared.event.EventAt.{EventAt}
 use Rattle.eit_segments.specs.declared.piece.Piece.{Piece}
 use Rattle.eit_segments.specs.Schedule.{section_runs, sections_from}

@@ -7,7 +7,7 @@ use Rattle.std.proofs.lemmas.List.{drop-drop, take-append-drop, append_cancel_ri
 use Rattle.std.proofs.lemmas.List.Concat.{flat_map-append}
 use Rattle.std.proofs.lemmas.List.Folds.{flat_map-map, list_any_at}
 use Rattle.guide_limits.specs.Events.{block_of}
-use Rattle.longest_runs.proofs.RunFacts.{are_longest}
+use Rattle.si_lists.proofs.RunFacts.{are_longest}
 use Rattle.eit_segments.specs.declared.event.EventAt.{EventAt}
 use Rattle.eit_segments.specs.Placement.{AreInOrder, start_block, in_block, has_event, block_place}
 use Rattle.eit_segments.specs.Schedule.{CanBePlaced, highest, block_runs, sections_from, segment_sections, last_used, last_number, table_sections, schedule_of}

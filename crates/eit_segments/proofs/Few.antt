@@ -6,8 +6,8 @@ use Rattle.std.proofs.lemmas.Bool.{cases_Bool, cond-true, cond-false}
 use Rattle.std.proofs.lemmas.Bool.Decides.{leb_tells}
 use Rattle.std.proofs.lemmas.List.Sums.{sum_by-cons}
 use Rattle.guide_model.specs.declared.event.Event.{Event}
-use Rattle.desc_event.specs.EventDescriptors.{entry_size}
-use Rattle.longest_runs.specs.Runs.{cut}
+use Rattle.descriptors.specs.EventDescriptors.{entry_size}
+use Rattle.si_lists.specs.Runs.{cut}
 use Rattle.guide_limits.specs.Events.{start_of, end_of, block_size}
 use Rattle.guide_limits.specs.Sound.{IsBefore, AreApart}
 use Rattle.eit_segments.specs.declared.event.EventAt.{EventAt}

@@ -6,7 +6,7 @@ use Rattle.std.proofs.lemmas.List.{get_or_default}
 use Rattle.std.proofs.lemmas.List.Elements.{All-from_recursion}
 use Rattle.std.proofs.lemmas.List.Folds.{list_any_none, list_any_at}
 use Rattle.std.proofs.lemmas.List.Sums.{position_or_len_is, fails_before_first, passes_at_first}
-use Rattle.longest_runs.proofs.RunFacts.{runs_some}
+use Rattle.si_lists.proofs.RunFacts.{runs_some}
 use Rattle.eit_segments.specs.declared.event.EventAt.{EventAt}
 use Rattle.eit_segments.specs.Placement.{start_block, end_at, AreInOrder, in_block, has_event, block_place, next_place, present_at}
 use Rattle.eit_segments.specs.Schedule.{last_used, section_runs, block_runs, FitSegments}

@@ -3,7 +3,7 @@ use Rattle.std.specs.Prelude.{◌≡◌, ℕ, ◌+◌, ◌-◌, ◌%◌, ◌≤�
 use Rattle.std.specs.List.{AllByRecursion}
 use Rattle.section_codec.specs.Segments.{segment_of, table_needs}
 use Rattle.guide_model.specs.declared.event.Event.{Event}
-use Rattle.desc_event.specs.EventDescriptors.{entry_size}
+use Rattle.descriptors.specs.EventDescriptors.{entry_size}
 use Rattle.guide_limits.specs.Limits.{AreWithin}
 use Rattle.eit_segments.specs.declared.event.EventAt.{EventAt}
 use Rattle.eit_segments.specs.declared.piece.Piece.{Piece}

@@ -5,7 +5,7 @@ use Rattle.si_causes.specs.Text.{text_lines}
 use Rattle.input_lines.specs.Ahead.{tail_of}
 use Rattle.version_book.specs.Airings.{AiredTables}
 use Rattle.air_model.specs.Air.{CanBeSent}
-use Rattle.air_hearing.proofs.Told.{sent_of}
+use Rattle.air_laws.proofs.HearingTold.{sent_of}
 use Rattle.mux_model.specs.declared.mux.Mux.{Mux}
 use Rattle.journal_model.specs.Steps.{Command}
 use Rattle.desk_core.specs.Journal.{entry_after, journal_of}
@@ -13,18 +13,18 @@ use Rattle.desk_core.specs.Desks.{DeskState}
 use Rattle.desk_core.proofs.JournalFacts.{journal_legal, journal_more}
 use Rattle.journal_air.specs.Air.{airings, airings_by}
 use Rattle.journal_air.proofs.CarryFacts.{airings_heard}
-use Rattle.journal_screen.specs.Shown.{IsAsRead}
-use Rattle.journal_screen.specs.Heard.{IsHeardAs}
-use Rattle.journal_screen.proofs.Heard.{airs_heard}
-use Rattle.air_sending.proofs.SwapFacts.{airings-push}
+use Rattle.journal_air.specs.JournalScreenShown.{IsAsRead}
+use Rattle.journal_air.specs.Heard.{IsHeardAs}
+use Rattle.journal_air.proofs.Heard.{airs_heard}
+use Rattle.journal_air.proofs.SwapFacts.{airings-push}
 use Rattle.epg_play.specs.Script.{Script, Stop, script_in}
 use Rattle.epg_play.specs.Leaves.{whole_journal}
 use Rattle.epg_play.proofs.RunFacts.{IsPlayed, IsPlayedTo}
 use Rattle.epg_play.proofs.SentFacts.{script_as_read}
 use Rattle.epg_audit.specs.Audits.{desk_airings}
 use Rattle.epg_audit.specs.Recorded.{airings_for, script_airings}
-use Rattle.cycle_audit.specs.Airs.{AreAirAt}
-use Rattle.air_sending.proofs.Spaced.{airings_timed}
+use Rattle.air_audit.specs.CycleAirs.{AreAirAt}
+use Rattle.journal_air.proofs.Spaced.{airings_timed}
 use Rattle.epg_audit.proofs.Plain.{heard_in}
 
 -- ---- the first commands

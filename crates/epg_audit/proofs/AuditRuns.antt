@@ -27,9 +27,9 @@ use Rattle.epg_audit.specs.Finds.{FindsIn, HasMetCause, IsAtFault, IsFound, IsMe
 use Rattle.epg_audit.specs.Leaves.{AuditRun, DecidedBy, IsOfAudit, IsUnhindered, LeavesAudit}
 use Rattle.epg_audit.specs.Recorded.{IsFaulty, IsRecordedAir, airings_for, script_airings, rate_in}
 use Rattle.epg_audit.proofs.Nulls.{seen_parts}
-use Rattle.cycle_audit.specs.Airs.{AreAirAt}
-use Rattle.cycle_audit.proofs.Laws.{air_begins}
-use Rattle.timed_audit.specs.Airs.{seen}
+use Rattle.air_audit.specs.CycleAirs.{AreAirAt}
+use Rattle.air_audit.proofs.CycleLaws.{air_begins}
+use Rattle.air_audit.specs.TimedAirs.{seen}
 
 abbrev pub Finished : Result AirCount Status → ReportTaken → Status → Type 0
 Finished audited report status = (status ≡ Memory) ⊎ ReportEnds (met_by audited) (count_text audited) report status

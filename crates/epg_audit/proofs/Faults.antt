@@ -16,11 +16,11 @@ use Rattle.epg_audit.specs.Checks.{AreTaken}
 use Rattle.epg_audit.specs.Recorded.{IsFaulty, IsRecordedAir, is_passed}
 use Rattle.epg_audit.proofs.Nulls.{seen_more, seen_same, shapeless}
 use Rattle.epg_audit.proofs.Pieces.{at_front, front_is, packets_parted, packets_taken, size_parted, taken_more}
-use Rattle.cycle_audit.specs.Airs.{AreAirAt, BeginAirAt}
-use Rattle.cycle_audit.specs.Checking.{Auditing, IsAtEnd, IsOf, StandsAt, rule_at}
-use Rattle.cycle_audit.specs.Breaking.{BreaksAt}
-use Rattle.cycle_audit.proofs.Laws.{breaks_within, end_is_air, longer_airs, longer_begins, longer_lists_agree, no_air_yet, nothing_after, shape_broken, stands_begins, wrong_shape}
-use Rattle.timed_audit.specs.Airs.{seen}
+use Rattle.air_audit.specs.CycleAirs.{AreAirAt, BeginAirAt}
+use Rattle.air_audit.specs.CycleChecking.{Auditing, IsAtEnd, IsOf, StandsAt, rule_at}
+use Rattle.air_audit.specs.Breaking.{BreaksAt}
+use Rattle.air_audit.proofs.CycleLaws.{breaks_within, end_is_air, longer_airs, longer_begins, longer_lists_agree, no_air_yet, nothing_after, shape_broken, stands_begins, wrong_shape}
+use Rattle.air_audit.specs.TimedAirs.{seen}
 
 -- ---- a packet that differs
 

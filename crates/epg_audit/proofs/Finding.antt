@@ -33,11 +33,11 @@ use Rattle.journal_model.specs.declared.step.Entry.{Entry}
 use Rattle.epg_report.specs.Asked.{AtPath}
 use Rattle.epg_report.specs.Told.{OpenerAsked}
 use Rattle.epg_audit.specs.Finds.{AskedOnceDescribed, FindsIn, IsAccepted, IsAtFault, IsFound, StopsBehind}
-use Rattle.journal_screen.specs.Heard.{IsHeardAs}
+use Rattle.journal_air.specs.Heard.{IsHeardAs}
 use Rattle.epg_audit.specs.Recorded.{BeginsWithAir, IsFaulty, IsRecordedAir, airings_for, script_airings, rate_in}
 use Rattle.epg_audit.proofs.Airings.{desk_begins_script, desk_is_script, script_heard, script_sent}
-use Rattle.cycle_audit.specs.Airs.{AreAirAt}
-use Rattle.timed_audit.specs.Airs.{seen}
+use Rattle.air_audit.specs.CycleAirs.{AreAirAt}
+use Rattle.air_audit.specs.TimedAirs.{seen}
 
 -- ---- a script that stops
 

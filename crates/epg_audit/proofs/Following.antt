@@ -19,10 +19,10 @@ use Rattle.epg_audit.specs.Recorded.{is_passed, passed_over}
 use Rattle.epg_audit.proofs.Faults.{broken_in_cycle, cut_short, differs_in_cycle, no_shape, past_limit, short_in_cycle}
 use Rattle.epg_audit.proofs.Nulls.{seen_same, shapeless}
 use Rattle.epg_audit.proofs.Pieces.{taken_more, taken_none}
-use Rattle.cycle_audit.specs.Airs.{BeginAirAt}
-use Rattle.cycle_audit.specs.Checking.{Auditing, IsAtEnd, IsOf, StandsAt, rule_at}
-use Rattle.cycle_audit.proofs.Laws.{longer_begins, stands_begins}
-use Rattle.timed_audit.specs.Airs.{seen}
+use Rattle.air_audit.specs.CycleAirs.{BeginAirAt}
+use Rattle.air_audit.specs.CycleChecking.{Auditing, IsAtEnd, IsOf, StandsAt, rule_at}
+use Rattle.air_audit.proofs.CycleLaws.{longer_begins, stands_begins}
+use Rattle.air_audit.specs.TimedAirs.{seen}
 
 module _ {F : Type 0} (rate : Option ℕ) (nulls : Bool) (left : F → Option (List ℕ))
     (start old new : PacketReading F) where

@@ -18,8 +18,8 @@ use Rattle.journal_air.specs.Air.{airings, mux_form}
 use Rattle.version_book.specs.Airings.{AiredTables}
 use Rattle.ts_packets.specs.WholePackets.{whole_packets}
 use Rattle.air_model.specs.declared.rule.Rule.{Rule}
-use Rattle.air_sending.specs.OnAir.{airing_on, is_swap}
-use Rattle.air_sending.proofs.SwapFacts.{airings-other, airings-swap}
+use Rattle.journal_air.specs.OnAir.{airing_on, is_swap}
+use Rattle.journal_air.proofs.SwapFacts.{airings-other, airings-swap}
 use Rattle.epg_report.specs.declared.status.Status.{Status}
 use Rattle.epg_report.specs.declared.status.Status.TheVariants.{Disagrees, BadStream, Memory, NotAir, ReadFault, Short, TooLong}
 use Rattle.epg_report.specs.declared.status.Origin.TheVariants.{Feed, Input, Recording}
@@ -35,10 +35,10 @@ use Rattle.epg_audit.specs.Finds.{IsMetBehind}
 use Rattle.epg_audit.specs.Recorded.{BeginsWithAir, IsFaulty, passed_over}
 use Rattle.epg_audit.proofs.Faults.{cut_short, differs_at_end, past_limit, recorded}
 use Rattle.epg_audit.proofs.Pieces.{front_is, packets_parted, packets_taken}
-use Rattle.cycle_audit.specs.Airs.{AreAirAt}
-use Rattle.cycle_audit.specs.Checking.{Auditing, IsAtEnd, form_of}
-use Rattle.cycle_audit.proofs.Laws.{end_is_air, stands_begins}
-use Rattle.timed_audit.specs.Airs.{seen}
+use Rattle.air_audit.specs.CycleAirs.{AreAirAt}
+use Rattle.air_audit.specs.CycleChecking.{Auditing, IsAtEnd, form_of}
+use Rattle.air_audit.proofs.CycleLaws.{end_is_air, stands_begins}
+use Rattle.air_audit.specs.TimedAirs.{seen}
 
 -- ---- what a step puts on air
 

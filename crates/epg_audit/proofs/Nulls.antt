@@ -7,7 +7,7 @@ use Rattle.air_audit.specs.Checking.{has_shape}
 use Rattle.air_audit.specs.Passing.{is_null}
 use Rattle.air_audit.proofs.Passing.{null_more, other_more}
 use Rattle.epg_audit.specs.Recorded.{is_passed, passed_over}
-use Rattle.timed_audit.specs.Airs.{seen}
+use Rattle.air_audit.specs.TimedAirs.{seen}
 
 -- ---- what is looked at
 

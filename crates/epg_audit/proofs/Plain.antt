@@ -9,13 +9,13 @@ use Rattle.air_model.specs.Air.{Aired, air, airings_of}
 use Rattle.air_model.specs.Nulls.{without_nulls, plain}
 use Rattle.air_model.specs.Repeating.{IsRepeatingAirOf}
 use Rattle.air_model.proofs.Nulls.{air_left, plain_repeats}
-use Rattle.air_paced.specs.Airs.{CanBeTimed}
-use Rattle.air_paced.proofs.Airs.{timed_airs_are_airs}
+use Rattle.cycle_timing.specs.Airs.{CanBeTimed}
+use Rattle.cycle_timing.proofs.Airs.{timed_airs_are_airs}
 use Rattle.air_audit.specs.Passing.{is_null, past_nulls}
 use Rattle.air_audit.proofs.Checks.{shape_of_written}
-use Rattle.timed_audit.specs.Airs.{seen_of}
+use Rattle.air_audit.specs.TimedAirs.{seen_of}
 use Rattle.cycle_player.specs.Airs.{IsAirAt}
-use Rattle.cycle_audit.specs.Airs.{AreAirAt}
+use Rattle.air_audit.specs.CycleAirs.{AreAirAt}
 
 -- a null packet that is written
 null_written : (p : Packet) → HasFields p → is_null (bytes_of_packet p) ≡ (p.pid == 8191)

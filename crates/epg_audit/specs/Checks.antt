@@ -14,8 +14,8 @@ use Rattle.epg_report.specs.declared.status.Status.{Status}
 use Rattle.epg_report.specs.declared.status.Status.TheVariants.{BadStream, Memory, NotAir, ReadFault, Short, TooLong}
 use Rattle.epg_report.specs.declared.status.Origin.TheVariants.{Recording}
 use Rattle.epg_audit.specs.Recorded.{IsFaulty, is_passed, passed_over}
-use Rattle.cycle_audit.specs.Checking.{Auditing, IsOf, StandsAt}
-use Rattle.timed_audit.specs.Airs.{seen}
+use Rattle.air_audit.specs.CycleChecking.{Auditing, IsOf, StandsAt}
+use Rattle.air_audit.specs.TimedAirs.{seen}
 
 -- Of bytes these packets were taken, and the others are left.
 pub record AreTaken (bytes : List ℕ) (packets : List (List ℕ)) (rest : List ℕ) : Type 0 where

@@ -7,7 +7,7 @@ use Rattle.ts_packets.specs.WholePackets.{whole_packets}
 use Rattle.version_book.specs.Airings.{AiredTables}
 use Rattle.air_model.specs.Air.{CanBeSent}
 use Rattle.journal_air.specs.Air.{airings}
-use Rattle.journal_screen.specs.Heard.{IsHeardAs}
+use Rattle.journal_air.specs.Heard.{IsHeardAs}
 use Rattle.epg_report.specs.declared.status.Status.{Status}
 use Rattle.epg_report.specs.declared.status.Status.TheVariants.{BadMux, BadScript, BadStream, Disagrees, Memory, NotAir, OpenFault, ReadFault, Short, TooLong as PastLimit}
 use Rattle.epg_report.specs.declared.status.Origin.TheVariants.{Input, Recording}
@@ -18,7 +18,7 @@ use Rattle.epg_play.specs.Leaves.{whole_journal}
 use Rattle.epg_audit.specs.declared.cycles.AirCount.{AirCount}
 use Rattle.epg_audit.specs.Audits.{IsCounted}
 use Rattle.epg_audit.specs.Recorded.{BeginsWithAir, IsFaulty, IsRecordedAir, rate_in, script_airings}
-use Rattle.timed_audit.specs.Airs.{seen}
+use Rattle.air_audit.specs.TimedAirs.{seen}
 
 -- The script is whole, and the recording is an air of its journal, of so many packets and swaps. At
 -- a

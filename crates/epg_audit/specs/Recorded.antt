@@ -7,9 +7,9 @@ use Rattle.journal_air.specs.Air.{airings}
 use Rattle.version_book.specs.Airings.{AiredTables}
 use Rattle.ts_packets.specs.WholePackets.{whole_packets}
 use Rattle.air_audit.specs.Passing.{is_null}
-use Rattle.timed_audit.specs.Airs.{seen}
-use Rattle.cycle_audit.specs.Airs.{AreAirAt, BeginAirAt}
-use Rattle.cycle_audit.specs.Breaking.{BreaksAt}
+use Rattle.air_audit.specs.TimedAirs.{seen}
+use Rattle.air_audit.specs.CycleAirs.{AreAirAt, BeginAirAt}
+use Rattle.air_audit.specs.Breaking.{BreaksAt}
 use Rattle.epg_report.specs.declared.status.Status.{Status}
 use Rattle.epg_report.specs.declared.status.Status.TheVariants.{BadStream, NotAir, ReadFault, Short, TooLong}
 use Rattle.epg_report.specs.declared.status.Origin.TheVariants.{Recording}

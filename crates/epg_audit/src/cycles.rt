@@ -6,9 +6,9 @@ ghost use Rattle.desk_core.specs.Publications.{aired_by, swaps};
 ghost use Rattle.packet_reader.specs.Reading.{PacketReading, bytes_left};
 ghost use Rattle.ts_packets.specs.WholePackets.{whole_packets};
 ghost use Rattle.version_book.specs.Airings.{AiredTables};
-ghost use Rattle.cycle_audit.specs.Checking.{IsAtEnd, IsOf, StandsAt, form_of};
+ghost use Rattle.air_audit.specs.CycleChecking.{IsAtEnd, IsOf, StandsAt, form_of};
 ghost use Rattle.journal_air.specs.Air.{mux_form};
-ghost use Rattle.air_sending.specs.OnAir.{airing_on};
+ghost use Rattle.journal_air.specs.OnAir.{airing_on};
 ghost use Rattle.epg_report.specs.Texts.{CanBeSaid};
 ghost use Rattle.epg_audit.specs.Audits.{AuditDid, HasAuditCause};
 ghost use Rattle.epg_audit.specs.Finds.{IsMetBehind};
@@ -16,7 +16,7 @@ ghost use Rattle.epg_audit.specs.Checks.{Checks, Follows, HasReadCause, IsOfChec
 ghost use Rattle.epg_audit.specs.Recorded.{passed_over};
 
 use crate::recording::{check_cycle, check_end};
-use cycle_audit::CycleChecker;
+use air_audit::CycleChecker;
 use desk_core::Desk;
 use epg_play::{ItemDone, do_item, status_of};
 use epg_report::Status;

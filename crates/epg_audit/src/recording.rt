@@ -3,14 +3,14 @@ ghost use Rattle.std.specs.Prelude.{◌≡◌, ◌≤◌, ◌↔◌, ◌++◌, �
 ghost use Rattle.packet_reader.specs.Reading.{PacketReading};
 ghost use Rattle.packet_reader.specs.Recordings.{packet_limit};
 ghost use Rattle.version_book.specs.Airings.{AiredTables};
-ghost use Rattle.timed_audit.specs.Airs.{seen};
-ghost use Rattle.cycle_audit.specs.Airs.{BeginAirAt};
-ghost use Rattle.cycle_audit.specs.Checking.{Auditing, IsAtEnd, IsOf, StandsAt, form_of, rule_at};
+ghost use Rattle.air_audit.specs.TimedAirs.{seen};
+ghost use Rattle.air_audit.specs.CycleAirs.{BeginAirAt};
+ghost use Rattle.air_audit.specs.CycleChecking.{Auditing, IsAtEnd, IsOf, StandsAt, form_of, rule_at};
 ghost use Rattle.epg_audit.specs.Checks.{Checks, Ends, Follows, HasReadCause, IsOfCheck, recording_status};
 ghost use Rattle.epg_audit.specs.Recorded.{is_passed, passed_over};
 
+use air_audit::{CycleChecker, is_null};
 use air_model::Rule;
-use cycle_audit::{CycleChecker, is_null};
 use epg_report::{Origin, Status};
 use packet_reader::{PacketReader, PacketStop};
 use si_causes::Source;

@@ -4,7 +4,7 @@ ghost use Rattle.std.specs.Io.KnownBytes.{IsAtEnd};
 ghost use Rattle.si_causes.specs.Reading.{fresh};
 ghost use Rattle.packet_reader.specs.Reading.{fresh as unread};
 ghost use Rattle.mux_model.specs.Sound.{IsSound};
-ghost use Rattle.cycle_audit.specs.Checking.{IsAtEnd as IsAtCycleEnd, IsOf, StandsAt, form_of};
+ghost use Rattle.air_audit.specs.CycleChecking.{IsAtEnd as IsAtCycleEnd, IsOf, StandsAt, form_of};
 ghost use Rattle.journal_air.specs.Air.{mux_form};
 ghost use Rattle.epg_report.specs.Texts.{CanBeSaid};
 ghost use Rattle.epg_report.specs.Told.{asked};
@@ -16,7 +16,7 @@ ghost use Rattle.epg_audit.specs.Leaves.{AuditRan};
 
 use crate::cycles::{AirCount, audit_rest, swap_count};
 use crate::ending::finish;
-use cycle_audit::CycleChecker;
+use air_audit::CycleChecker;
 use desk_core::Desk;
 use epg_play::{mux_stop_of, status_of};
 use epg_report::{Status, out_of_memory};

@@ -9,14 +9,14 @@ use Rattle.journal_model.specs.declared.step.Outcome.{Outcome}
 use Rattle.journal_model.specs.declared.step.Entry.{Entry}
 use Rattle.journal_model.specs.Steps.{Command}
 use Rattle.desk_core.specs.Journal.{Legal, entry_after}
-use Rattle.checkpoint_laws.specs.Going.{GoOnAlike, raised_entry}
-use Rattle.checkpoint_laws.proofs.GoFacts.{after_alike, all_legal, journals_alike}
+use Rattle.desk_checkpoint.specs.Going.{GoOnAlike, raised_entry}
+use Rattle.desk_checkpoint.proofs.GoFacts.{after_alike, all_legal, journals_alike}
 use Rattle.script_lines.specs.declared.script.ScriptItem.TheVariants.{Step as step, Kept, End}
 use Rattle.script_notes.specs.declared.noting.Noting.{Noting}
 use Rattle.script_notes.specs.declared.noting.Noting.TheVariants.{Bad, Item}
 use Rattle.script_notes.specs.Notings.{notings_ahead}
 use Rattle.epg_play.proofs.RunFacts.{raised_none}
-use Rattle.follow_report.specs.Pieces.{Entered}
+use Rattle.script_notes.specs.Pieces.{Entered}
 use Rattle.epg_follow.specs.Course.{Adds, Followed, addition, and_others, entered, followed, followed_of}
 
 pub entry_unraised : (e : Entry) → raised_entry 0 e ≡ e

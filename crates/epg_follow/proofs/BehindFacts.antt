@@ -17,11 +17,11 @@ use Rattle.desk_core.specs.Journal.{Legal, journal_after}
 use Rattle.cycle_player.specs.Tallies.{tally_of}
 use Rattle.cycle_player.proofs.Airs.{airings_are as cycle_airings}
 use Rattle.journal_air.specs.Air.{airings}
-use Rattle.journal_screen.specs.Shown.{IsAsRead}
-use Rattle.checkpoint_laws.specs.Going.{all_raised}
-use Rattle.checkpoint_laws.proofs.GoFacts.{journals_alike}
-use Rattle.air_sending.specs.OnAir.{HasAired, IsPlayerOf}
-use Rattle.air_sending.specs.Tallied.{HasTallied}
+use Rattle.journal_air.specs.JournalScreenShown.{IsAsRead}
+use Rattle.desk_checkpoint.specs.Going.{all_raised}
+use Rattle.desk_checkpoint.proofs.GoFacts.{journals_alike}
+use Rattle.journal_air.specs.OnAir.{HasAired, IsPlayerOf}
+use Rattle.journal_air.specs.Tallied.{HasTallied}
 use Rattle.epg_report.specs.declared.status.Status.{Status}
 use Rattle.epg_report.specs.declared.status.Status.TheVariants as status
 use Rattle.epg_report.specs.declared.status.Origin.TheVariants.{Input}
@@ -35,7 +35,7 @@ use Rattle.epg_play.specs.Checkpointed.{HasRun}
 use Rattle.epg_play.specs.Played.{desk_after}
 use Rattle.epg_play.specs.Script.{Stop, Ended, NoCommand as NoLine, Disagreed, TooLong, Unread}
 use Rattle.epg_play.proofs.GoingOn.{IsBase, air_on, cut_on, desk_with, legal_on, read_on}
-use Rattle.follow_report.specs.Pieces.{Piece, Noted, entries_in, piece_text, pieces_text}
+use Rattle.script_notes.specs.Pieces.{Piece, Noted, entries_in, piece_text, pieces_text}
 use Rattle.epg_follow.specs.declared.follower.Follower.{Follower}
 use Rattle.epg_follow.specs.declared.stop.FollowStop.{FollowStop}
 use Rattle.epg_follow.specs.declared.stop.FollowStop.TheVariants.{NoCommand, Disagrees, Read, Air, Report, Memory}

@@ -12,11 +12,11 @@ use Rattle.journal_model.specs.declared.step.Entry.{Entry}
 use Rattle.journal_model.specs.Steps.{Command}
 use Rattle.desk_core.specs.Journal.{entry_after, journal_after}
 use Rattle.desk_core.proofs.JournalFacts.{journal_more}
-use Rattle.checkpoint_laws.specs.Going.{all_raised, raised_entry}
+use Rattle.desk_checkpoint.specs.Going.{all_raised, raised_entry}
 use Rattle.script_lines.specs.declared.script.ScriptItem.TheVariants.{Step as step, Kept, End}
 use Rattle.epg_play.specs.Outcomes.{is_outcome}
 use Rattle.epg_play.specs.Script.{Stop, stop_of}
-use Rattle.follow_report.specs.Pieces.{Piece, Noted, entries_in, entry_in, pieces_text, piece_text}
+use Rattle.script_notes.specs.Pieces.{Piece, Noted, entries_in, entry_in, pieces_text, piece_text}
 use Rattle.script_notes.specs.declared.noting.Noting.{Noting}
 use Rattle.script_notes.specs.declared.noting.Noting.TheVariants.{Bad, Item}
 use Rattle.script_notes.specs.Notings.{first_noting, is_command_noting, notings_ahead}

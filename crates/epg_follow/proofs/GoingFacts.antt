@@ -15,14 +15,14 @@ use Rattle.journal_model.specs.declared.step.Outcome.{Outcome}
 use Rattle.journal_model.specs.declared.step.Entry.{Entry}
 use Rattle.desk_core.specs.Journal.{journal_after}
 use Rattle.desk_core.specs.Lean.{StandsFor}
-use Rattle.checkpoint_laws.specs.Going.{all_raised}
+use Rattle.desk_checkpoint.specs.Going.{all_raised}
 use Rattle.epg_report.specs.Told.{ReportTaken}
 use Rattle.cycle_player.specs.Sending.{Sending}
-use Rattle.air_sending.specs.OnAir.{HasAired, IsPlayerOf}
-use Rattle.air_sending.specs.Tallied.{HasTallied}
+use Rattle.journal_air.specs.OnAir.{HasAired, IsPlayerOf}
+use Rattle.journal_air.specs.Tallied.{HasTallied}
 use Rattle.epg_play.proofs.GoingOn.{desk_with}
 use Rattle.epg_play.specs.Script.{Stop, Unread, stop_of}
-use Rattle.follow_report.specs.Pieces.{Piece, entries_in, piece_text, pieces_text}
+use Rattle.script_notes.specs.Pieces.{Piece, entries_in, piece_text, pieces_text}
 use Rattle.script_notes.specs.declared.noting.Noting.{Noting}
 use Rattle.script_notes.specs.declared.noting.Held.{Held}
 use Rattle.script_notes.specs.declared.noting.Held.TheVariants.{Nothing}

@@ -12,17 +12,17 @@ use Rattle.journal_model.specs.declared.step.Entry.{Entry}
 use Rattle.journal_model.specs.Steps.{IsEntryInWindow, IsInWindow, IsStepInWindow, IsStepWithin}
 use Rattle.desk_core.specs.Lean.{IsNumbered}
 use Rattle.desk_checkpoint.specs.Raising.{CanBeRaised}
-use Rattle.checkpoint_laws.specs.Going.{raised}
+use Rattle.desk_checkpoint.specs.Going.{raised}
 use Rattle.epg_play.proofs.RaiseFacts.{can_raise, raised_window}
 use Rattle.desk_core.specs.Journal.{Legal, entry_after}
 use Rattle.desk_core.specs.Desks.{DeskState}
 use Rattle.desk_core.specs.Lean.{StandsFor}
-use Rattle.air_sending.specs.declared.send.SendStop.{SendStop}
-use Rattle.air_sending.specs.declared.send.SendStop.TheVariants as send
-use Rattle.air_sending.specs.OnAir.{HasAired, HasAiredFront, IsPlayerOf, SentCycle, airing_on, and_step, is_swap}
-use Rattle.air_sending.specs.Tallied.{CountedCycle, HasTallied}
-use Rattle.air_sending.proofs.SwapFacts.{KeepsForm, other_aired, player_kept, swap_aired}
-use Rattle.air_sending.proofs.Tallied.{other_tallied, swap_tallied}
+use Rattle.journal_air.specs.declared.send.SendStop.{SendStop}
+use Rattle.journal_air.specs.declared.send.SendStop.TheVariants as send
+use Rattle.journal_air.specs.OnAir.{HasAired, HasAiredFront, IsPlayerOf, SentCycle, airing_on, and_step, is_swap}
+use Rattle.journal_air.specs.Tallied.{CountedCycle, HasTallied}
+use Rattle.journal_air.proofs.SwapFacts.{KeepsForm, other_aired, player_kept, swap_aired}
+use Rattle.journal_air.proofs.Tallied.{other_tallied, swap_tallied}
 use Rattle.epg_report.specs.Told.{ReportTaken}
 use Rattle.script_lines.specs.declared.script.ScriptItem.TheVariants.{Step as step}
 use Rattle.script_notes.specs.declared.noting.Noting.{Noting}
@@ -31,7 +31,7 @@ use Rattle.script_notes.specs.declared.why.Why.TheVariants.{Disagrees as Differs
 use Rattle.epg_play.specs.Outcomes.{is_outcome}
 use Rattle.epg_play.specs.Script.{NoCommand as NoLine}
 use Rattle.script_notes.specs.declared.why.Why.{Why}
-use Rattle.follow_report.specs.Pieces.{Piece, Entered, Noted, piece_text, pieces_text}
+use Rattle.script_notes.specs.Pieces.{Piece, Entered, Noted, piece_text, pieces_text}
 use Rattle.epg_follow.specs.declared.follower.Follower.{Follower}
 use Rattle.epg_follow.specs.declared.stop.FollowStop.{FollowStop}
 use Rattle.epg_follow.specs.declared.stop.FollowStop.TheVariants.{NoCommand, Disagrees, Read, Air, Report, Memory}

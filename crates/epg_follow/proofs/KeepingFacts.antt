@@ -16,7 +16,7 @@ use Rattle.script_notes.specs.Notings.{first_noting, is_command_noting, noted, n
 use Rattle.script_notes.proofs.NotingsAhead.{notings_go_on}
 use Rattle.epg_play.specs.Outcomes.{is_outcome}
 use Rattle.epg_play.specs.Script.{stop_of}
-use Rattle.follow_report.specs.Pieces.{Noted}
+use Rattle.script_notes.specs.Pieces.{Noted}
 use Rattle.epg_follow.specs.Course.{Adds, Agrees, and_others, Followed, followed_of, entries_with, made_by}
 use Rattle.epg_follow.specs.Keeping.{IsNoFault, KeepingGoesOn}
 

@@ -13,3 +13,14 @@ pub mod ResumedRuns
 pub mod FollowRuns
 pub mod SameAsPlayFacts
 pub mod KeepingFacts
+pub mod MadeFacts
+pub mod NearFacts
+pub mod LostFacts
+pub mod BridgeFacts
+pub mod MissingFacts
+pub mod AgainFacts
+pub mod RecoveryFacts
+pub mod FoldFacts
+pub mod EndingFacts
+pub mod LeavingFacts
+pub mod ManyRunsFacts

@@ -15,8 +15,8 @@ use Rattle.mux_config.specs.Texts.{described_taken}
 use Rattle.journal_model.specs.declared.step.Entry.{Entry}
 use Rattle.desk_core.specs.Desks.{DeskState}
 use Rattle.cycle_player.specs.Sending.{Sending}
-use Rattle.air_sending.specs.OnAir.{HasAired, IsPlayerOf}
-use Rattle.air_sending.specs.Tallied.{HasTallied}
+use Rattle.journal_air.specs.OnAir.{HasAired, IsPlayerOf}
+use Rattle.journal_air.specs.Tallied.{HasTallied}
 use Rattle.desk_checkpoint.specs.declared.start.Start.{Start}
 use Rattle.epg_report.specs.declared.status.Status.{Status}
 use Rattle.epg_report.specs.declared.status.Status.TheVariants as status

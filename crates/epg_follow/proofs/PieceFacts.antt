@@ -10,14 +10,14 @@ use Rattle.journal_model.specs.declared.step.Outcome.{Outcome}
 use Rattle.journal_model.specs.declared.step.Entry.{Entry}
 use Rattle.journal_model.specs.Steps.{Command, IsStepInWindow, IsTypedStep}
 use Rattle.desk_core.specs.Journal.{entry_after, journal_after}
-use Rattle.checkpoint_laws.specs.Going.{all_raised}
+use Rattle.desk_checkpoint.specs.Going.{all_raised}
 use Rattle.script_lines.specs.declared.script.ScriptItem.TheVariants.{Step as step, Kept, End}
 use Rattle.script_notes.specs.declared.noting.Noting.{Noting}
 use Rattle.script_notes.specs.declared.noting.Noting.TheVariants.{Bad, Item}
 use Rattle.script_notes.specs.Notings.{notings_ahead}
 use Rattle.epg_play.proofs.TypedFacts.{AreTypedCommands}
 use Rattle.epg_play.specs.Outcomes.{is_outcome}
-use Rattle.follow_report.specs.Pieces.{Piece, Entered, Noted, entries_in}
+use Rattle.script_notes.specs.Pieces.{Piece, Entered, Noted, entries_in}
 use Rattle.script_notes.specs.Laws.{IsNotingInWindow, IsTypedNoting}
 use Rattle.script_notes.proofs.NotingsAhead.{notings_typed, notings_window}
 use Rattle.epg_follow.specs.Course.{Followed, addition, and_others, entries_with, followed, followed_of, made_by, of_kept}

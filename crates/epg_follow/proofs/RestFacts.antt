@@ -7,7 +7,7 @@ use Rattle.si_causes.specs.declared.stop.ReadStop.TheVariants.{Failed, TooLong a
 use Rattle.input_lines.specs.Ahead as reading
 use Rattle.journal_model.specs.declared.step.Entry.{Entry}
 use Rattle.epg_play.specs.Script.{NoCommand as NoLine, Disagreed}
-use Rattle.follow_report.specs.Pieces.{Noted}
+use Rattle.script_notes.specs.Pieces.{Noted}
 use Rattle.epg_follow.specs.declared.follower.Follower.{Follower}
 use Rattle.epg_follow.specs.declared.stop.FollowStop.{FollowStop}
 use Rattle.epg_follow.specs.declared.stop.FollowStop.TheVariants.{NoCommand, Disagrees, Read, Air, Report, Memory}

@@ -13,12 +13,12 @@ use Rattle.mux_config.specs.Reads.{ReadMux}
 use Rattle.mux_config.proofs.Reading.{mux_read}
 use Rattle.journal_model.specs.declared.step.Entry.{Entry}
 use Rattle.journal_air.specs.Air.{airings}
-use Rattle.journal_screen.specs.Shown.{IsAsRead}
-use Rattle.journal_screen.proofs.Heard.{airs_heard}
+use Rattle.journal_air.specs.JournalScreenShown.{IsAsRead}
+use Rattle.journal_air.proofs.Heard.{airs_heard}
 use Rattle.desk_core.specs.Desks.{DeskState}
 use Rattle.desk_core.specs.Journal.{Legal, publishes}
-use Rattle.air_sending.specs.OnAir.{IsPlayerOf}
-use Rattle.checkpoint_laws.specs.Steps.{folded, shift_of}
+use Rattle.journal_air.specs.OnAir.{IsPlayerOf}
+use Rattle.desk_checkpoint.specs.Steps.{folded, shift_of}
 use Rattle.desk_checkpoint.specs.declared.start.Start.{Start}
 use Rattle.epg_report.specs.declared.status.Status.{Status}
 use Rattle.epg_report.specs.declared.status.Status.TheVariants.{BadCheckpoint, Memory, OpenFault, ReadFault, TooLong as PastLimit}

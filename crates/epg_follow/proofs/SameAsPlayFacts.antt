@@ -12,8 +12,8 @@ use Rattle.journal_model.specs.declared.step.Outcome.{Outcome}
 use Rattle.journal_model.specs.declared.step.Entry.{Entry}
 use Rattle.journal_model.specs.Steps.{Command}
 use Rattle.desk_core.specs.Journal.{entry_after, journal_after, outcome_of}
-use Rattle.air_sending.specs.OnAir.{and_step}
-use Rattle.checkpoint_laws.specs.Going.{all_raised, raised}
+use Rattle.journal_air.specs.OnAir.{and_step}
+use Rattle.desk_checkpoint.specs.Going.{all_raised, raised}
 use Rattle.script_lines.specs.declared.script.ScriptItem.{ScriptItem}
 use Rattle.script_lines.specs.declared.script.ScriptItem.TheVariants.{Step as step, Kept, End}
 use Rattle.script_lines.specs.Script.{Asked, IsRead, asked_by, first_script_item, is_command, is_outcome_line, item_on, items_ahead, kept_in, kept_item, read_command, read_item, step_item}
@@ -26,7 +26,7 @@ use Rattle.epg_play.specs.Script.{Disagreed, Ended, Stop, commands_of, differenc
 use Rattle.epg_play.proofs.CourseFacts.{agreed_ahead, differs_ahead, step_ahead, stop_ahead}
 use Rattle.epg_play.proofs.GoingOn.{desk_with}
 use Rattle.epg_play.proofs.RunFacts.{none_raised}
-use Rattle.follow_report.specs.Pieces.{Entered, piece_text}
+use Rattle.script_notes.specs.Pieces.{Entered, piece_text}
 use Rattle.epg_follow.specs.Course.{Adds, Followed, and_others, entered}
 use Rattle.epg_follow.specs.Going.{followed_at}
 use Rattle.epg_follow.proofs.CourseFacts.{line_ahead, stop_ahead as follow_stops}

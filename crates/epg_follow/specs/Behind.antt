@@ -17,7 +17,7 @@ use Rattle.epg_report.specs.Texts.{fault_lines}
 use Rattle.epg_report.specs.Told.{ReportTaken}
 use Rattle.epg_play.specs.Behind.{AirOn, CutAirOn}
 use Rattle.epg_play.specs.Script.{Stop, Ended, NoCommand, Disagreed, TooLong, Unread}
-use Rattle.follow_report.specs.Pieces.{Piece, entries_in, piece_text, pieces_text}
+use Rattle.script_notes.specs.Pieces.{Piece, entries_in, piece_text, pieces_text}
 use Rattle.epg_follow.specs.Course.{Followed, followed}
 use Rattle.epg_follow.specs.Items.{IsSwapEntry}
 

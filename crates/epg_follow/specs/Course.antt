@@ -12,8 +12,8 @@ use Rattle.script_notes.specs.declared.why.Why.TheVariants.{Disagrees}
 use Rattle.script_notes.specs.declared.noting.Noting.{Noting}
 use Rattle.script_notes.specs.declared.noting.Noting.TheVariants.{Bad, Item}
 use Rattle.script_notes.specs.Notings.{notings_ahead}
-use Rattle.follow_report.specs.Pieces.{Piece, Entered, Noted}
-use Rattle.checkpoint_laws.specs.Going.{raised_entry}
+use Rattle.script_notes.specs.Pieces.{Piece, Entered, Noted}
+use Rattle.desk_checkpoint.specs.Going.{raised_entry}
 use Rattle.epg_play.specs.Outcomes.{is_outcome}
 use Rattle.epg_play.specs.Script.{Stop, NoCommand, Disagreed, stop_of}
 

@@ -7,7 +7,7 @@ use Rattle.epg_report.specs.Ends.{ReportEnds}
 use Rattle.epg_report.specs.Rates.{rate_line}
 use Rattle.epg_report.specs.Texts.{fault_lines}
 use Rattle.epg_report.specs.Told.{ReportTaken, Reported}
-use Rattle.follow_report.specs.Pieces.{Piece, Noted, pieces_text}
+use Rattle.script_notes.specs.Pieces.{Piece, Noted, pieces_text}
 use Rattle.epg_follow.specs.declared.follower.Follower.{Follower}
 use Rattle.epg_follow.specs.declared.stop.FollowStop.{FollowStop}
 use Rattle.epg_follow.specs.declared.stop.FollowStop.TheVariants.{NoCommand, Report, Memory}

@@ -9,7 +9,7 @@ use Rattle.journal_model.specs.declared.step.Entry.{Entry}
 use Rattle.journal_model.specs.declared.step.Outcome.{Outcome}
 use Rattle.desk_core.specs.Lean.{StandsFor}
 use Rattle.epg_report.specs.Told.{ReportTaken}
-use Rattle.follow_report.specs.Pieces.{Piece}
+use Rattle.script_notes.specs.Pieces.{Piece}
 use Rattle.script_notes.specs.Held.{ahead_held, with_held}
 use Rattle.script_notes.specs.Notings.{notings_ahead}
 use Rattle.epg_follow.specs.declared.follower.Follower.{Follower}

@@ -13,8 +13,8 @@ use Rattle.journal_model.specs.Steps.{IsInWindow}
 use Rattle.desk_core.specs.Desks.{DeskState}
 use Rattle.desk_core.specs.Journal.{entry_after}
 use Rattle.desk_core.specs.Lean.{IsLean, StandsFor}
-use Rattle.air_sending.specs.OnAir.{HasAired, HasAiredFront, IsPlayerOf}
-use Rattle.air_sending.specs.Tallied.{HasTallied}
+use Rattle.journal_air.specs.OnAir.{HasAired, HasAiredFront, IsPlayerOf}
+use Rattle.journal_air.specs.Tallied.{HasTallied}
 use Rattle.epg_report.specs.Told.{ReportTaken}
 use Rattle.epg_play.specs.Script.{NoCommand as NoLine, Disagreed}
 use Rattle.script_notes.specs.declared.noting.Noting.{Noting}
@@ -22,7 +22,7 @@ use Rattle.script_notes.specs.declared.noting.Held.{Held}
 use Rattle.script_notes.specs.declared.noting.Held.TheVariants.{Nothing}
 use Rattle.script_notes.specs.Held.{IsHeldBy, PassesTo, came_held, first_held, left_over}
 use Rattle.script_notes.specs.Whys.{CanBeSaid}
-use Rattle.follow_report.specs.Pieces.{Piece, Entered, Noted, piece_text, pieces_text}
+use Rattle.script_notes.specs.Pieces.{Piece, Entered, Noted, piece_text, pieces_text}
 use Rattle.epg_follow.specs.declared.follower.Follower.{Follower}
 use Rattle.epg_follow.specs.declared.stop.FollowStop.{FollowStop}
 use Rattle.epg_follow.specs.declared.stop.FollowStop.TheVariants.{NoCommand, Disagrees, Read, Air, Report, Memory}

@@ -8,3 +8,14 @@ pub mod Behind
 pub mod Runs
 pub mod SameAsPlay
 pub mod Keeping
+pub mod Made
+pub mod Near
+pub mod Stands
+pub mod Bridges
+pub mod Missing
+pub mod Again
+pub mod Recovery
+pub mod Folds
+pub mod Endings
+pub mod Leaving
+pub mod ManyRuns

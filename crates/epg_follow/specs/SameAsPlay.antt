@@ -8,7 +8,7 @@ use Rattle.desk_core.specs.Journal.{journal_after}
 use Rattle.journal_text.specs.Entries.{journal_text}
 use Rattle.epg_play.specs.Behind.{played_behind}
 use Rattle.epg_play.specs.Script.{Ended}
-use Rattle.follow_report.specs.Pieces.{Entered, pieces_text}
+use Rattle.script_notes.specs.Pieces.{Entered, pieces_text}
 use Rattle.epg_follow.specs.Course.{Followed, followed}
 
 -- a script that was followed to its end, of which these entries were reported

@@ -2,7 +2,7 @@
 ghost use Rattle.std.specs.Prelude.{◌≡◌, ◌≤◌, ◌++◌, [], IfErr, IfOk, OnOk};
 ghost use Rattle.epg_report.specs.Texts.{CanBeSaid, fault_lines};
 ghost use Rattle.epg_report.specs.Told.{told};
-ghost use Rattle.follow_report.specs.Pieces.{pieces_text};
+ghost use Rattle.script_notes.specs.Pieces.{pieces_text};
 ghost use Rattle.epg_follow.specs.Finish.{Closes, EndsIdle, FinishedBy, closing_text, comment_of, is_given_up, is_unreported};
 ghost use Rattle.epg_follow.specs.Items.{IsSaid};
 ghost use Rattle.epg_follow.specs.Stops.{met_by};
@@ -10,7 +10,7 @@ ghost use Rattle.epg_follow.specs.Stops.{met_by};
 use crate::follower::Follower;
 use crate::stop::{FollowStop, met_of};
 use epg_report::{Outlet, Status, ended, out_of_memory, put_fault_line, put_rate_line};
-use follow_report::put_comment;
+use script_notes::put_comment;
 use si_causes::{Sink, write_all};
 use std::alloc::{AllocError, Global};
 

@@ -7,10 +7,10 @@ ghost use Rattle.script_notes.specs.declared.noting.Noting.TheVariants.{Bad, Ite
 ghost use Rattle.script_notes.specs.Whys.{CanBeSaid};
 ghost use Rattle.air_model.specs.Air.{Aired};
 ghost use Rattle.cycle_player.specs.Sending.{AtEnd};
-ghost use Rattle.air_sending.specs.OnAir.{HasAirCause, SentCycle, airing_on, is_swap};
-ghost use Rattle.air_sending.specs.Tallied.{CountedCycle};
+ghost use Rattle.journal_air.specs.OnAir.{HasAirCause, SentCycle, airing_on, is_swap};
+ghost use Rattle.journal_air.specs.Tallied.{CountedCycle};
 ghost use Rattle.desk_core.specs.Lean.{IsLean, StandsFor};
-ghost use Rattle.follow_report.specs.Pieces.{Entered, Noted, piece_text};
+ghost use Rattle.script_notes.specs.Pieces.{Entered, Noted, piece_text};
 ghost use Rattle.epg_report.specs.Told.{told};
 ghost use Rattle.desk_core.specs.Journal.{entry_after};
 ghost use Rattle.epg_report.specs.Told.{ReportTaken};
@@ -22,14 +22,13 @@ ghost use Rattle.std.specs.Io.KnownBytes.{IsAtEnd};
 
 use crate::follower::Follower;
 use crate::stop::FollowStop;
-use air_sending::{SendStop, send_cycle};
 use desk_checkpoint::raise;
 use epg_play::agree;
-use follow_report::put_comment;
 use input_lines::EditStop;
+use journal_air::{SendStop, send_cycle};
 use journal_model::{Entry, Outcome, Step};
 use journal_text::{ScriptItem, write_entry};
-use script_notes::{Noting, Why, next_noting};
+use script_notes::{Noting, Why, next_noting, put_comment};
 use si_causes::{LineReader, Sink, Source, write_all};
 use std::alloc::{AllocError, Global};
 

@@ -5,8 +5,8 @@ use Rattle.guide_model.specs.declared.screen.Screen.{Screen}
 use Rattle.guide_screen.specs.Screen.{heard_of as shown_of}
 use Rattle.guide_screen.specs.declared.need.Heard.TheVariants.{Whole}
 use Rattle.guide_text.specs.Guides.{guide_text}
-use Rattle.heard_parts.specs.Laws.{HoldsWholeBeside}
-use Rattle.heard_parts.proofs.Whole.{guide_same, strict_guide_same}
+use Rattle.guide_parts.specs.HeardLaws.{HoldsWholeBeside}
+use Rattle.guide_parts.proofs.HeardWhole.{guide_same, strict_guide_same}
 use Rattle.epg_listen.specs.Lines.{History, heard_of, heard_text, heard_guide, view_heard}
 use Rattle.epg_listen.specs.Laws.{parts_heard, WholeIsReportedAlike}
 

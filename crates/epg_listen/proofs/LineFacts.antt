@@ -4,9 +4,9 @@ use Rattle.std.specs.Prelude.{Bool}
 use Rattle.std.proofs.lemmas.List.{map_more}
 use Rattle.packet_finder.specs.Pieces.{Piece, Piece.Packet, Piece.Junk}
 use Rattle.packet_finder.specs.Laws.{packets_of}
-use Rattle.heard_completions.specs.declared.done.DoneKey.{DoneKey}
-use Rattle.heard_completions.specs.Dones.{DoneAt, at_packet, dones_by, dones_behind}
-use Rattle.heard_completions.specs.Texts.{done_line, done_lines}
+use Rattle.guide_receiver.specs.declared.done.DoneKey.{DoneKey}
+use Rattle.guide_receiver.specs.Dones.{DoneAt, at_packet, dones_by, dones_behind}
+use Rattle.guide_receiver.specs.Texts.{done_line, done_lines}
 use Rattle.guide_receiver.specs.Guides.{guide_of}
 use Rattle.guide_text.specs.Guides.{guide_text}
 use Rattle.epg_listen.specs.Lines.{History, nothing_heard, after, after_all, heard_of, piece_lines, number_after, lines_after, heard_text}

@@ -13,9 +13,9 @@ use Rattle.ts_demux.specs.Sections.{ended_by}
 use Rattle.sub_collect.specs.KeyCounts.{key_count}
 use Rattle.sub_collect.specs.Runs.{Counted}
 use Rattle.sub_collect.proofs.KeyCounts.{count-grows}
-use Rattle.heard_completions.specs.Counting.{counted_among}
-use Rattle.heard_completions.specs.Dones.{counted_heard}
-use Rattle.heard_completions.proofs.Shown.{counted-push}
+use Rattle.guide_receiver.specs.Counting.{counted_among}
+use Rattle.guide_receiver.specs.Dones.{counted_heard}
+use Rattle.guide_receiver.proofs.Shown.{counted-push}
 use Rattle.command_words.specs.Grammar.{ListenOptions}
 use Rattle.epg_listen.specs.declared.listen.ListenStop.{ListenStop}
 use Rattle.epg_listen.specs.declared.listen.ListenStop.TheVariants as stop

@@ -5,11 +5,11 @@ use Rattle.guide_model.specs.declared.screen.Screen.{Screen}
 use Rattle.guide_screen.specs.Screen.{heard_of as shown_of}
 use Rattle.guide_screen.specs.declared.need.Heard.TheVariants.{Whole}
 use Rattle.guide_parts.specs.Parts.{Parts, parts_over}
-use Rattle.heard_completions.specs.Dones.{dones_of}
-use Rattle.heard_completions.specs.Texts.{done_lines}
+use Rattle.guide_receiver.specs.Dones.{dones_of}
+use Rattle.guide_receiver.specs.Texts.{done_lines}
 use Rattle.guide_receiver.specs.Guides.{guide_of}
 use Rattle.guide_text.specs.Guides.{guide_text}
-use Rattle.heard_parts.specs.Laws.{HoldsWholeBeside}
+use Rattle.guide_parts.specs.HeardLaws.{HoldsWholeBeside}
 use Rattle.command_words.specs.Grammar.{ListenOptions}
 use Rattle.epg_listen.specs.Lines.{History, heard_of, view_heard, taken_heard}
 use Rattle.epg_listen.specs.Leaves.{report_of, without_options}

@@ -4,8 +4,8 @@ use Rattle.std.specs.Prelude.{ℕ, ◌+◌, ◌++◌, List, [], ◌∷◌, Bool,
 use Rattle.packet_finder.specs.Pieces.{Piece, Piece.Packet, Piece.Junk}
 use Rattle.sub_collect.specs.Runs.{Counted}
 use Rattle.sub_collect.specs.Marks.{Taken, all_took}
-use Rattle.heard_completions.specs.Dones.{at_packet, counted_heard, dones_by}
-use Rattle.heard_completions.specs.Texts.{field_text, done_lines}
+use Rattle.guide_receiver.specs.Dones.{at_packet, counted_heard, dones_by}
+use Rattle.guide_receiver.specs.Texts.{field_text, done_lines}
 use Rattle.guide_screen.specs.View.{View}
 use Rattle.guide_screen.specs.Screen.{heard_of as shown_of}
 use Rattle.guide_parts.specs.Parts.{parts_over}
@@ -14,7 +14,7 @@ use Rattle.guide_receiver.specs.Guides.{view_of}
 use Rattle.strict_receiver.specs.Strict.{lost_by}
 use Rattle.strict_receiver.specs.Earlier.{counted_after, strict_dones_after, strict_view_after, taken_after}
 use Rattle.guide_text.specs.Guides.{guide_text}
-use Rattle.part_text.specs.PartTexts.{part_text}
+use Rattle.guide_parts.specs.PartTexts.{part_text}
 
 -- ---- what was heard
 

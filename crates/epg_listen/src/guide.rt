@@ -8,13 +8,12 @@ ghost use Rattle.guide_parts.specs.PartScreen.{part_guide};
 ghost use Rattle.guide_receiver.specs.Guides.{view_after};
 ghost use Rattle.guide_receiver.specs.Heard.{ReceiverStandsAfter};
 ghost use Rattle.guide_text.specs.Guides.{guide_text};
-ghost use Rattle.part_text.specs.PartTexts.{part_text};
+ghost use Rattle.guide_parts.specs.PartTexts.{part_text};
 ghost use Rattle.epg_listen.specs.Lines.{guide_shown};
 
-use guide_parts::{PartGuide, parts_heard};
+use guide_parts::{PartGuide, parts_heard, print_parts};
 use guide_receiver::Receiver;
 use guide_text::print_heard;
-use part_text::print_parts;
 use std::alloc::{AllocError, Global};
 
 /// The text of the guide of a receiver: with `partial` what is wanting and all that it holds, or else

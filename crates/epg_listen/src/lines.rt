@@ -1,7 +1,7 @@
 // The lines of a piece.
 ghost use Rattle.std.specs.Prelude.{◌≡◌, ◌++◌, IfOk, OnOk, map, option_map};
-ghost use Rattle.heard_completions.specs.Dones.{at_packet};
-ghost use Rattle.heard_completions.specs.Texts.{field_text, done_lines};
+ghost use Rattle.guide_receiver.specs.Dones.{at_packet};
+ghost use Rattle.guide_receiver.specs.Texts.{field_text, done_lines};
 ghost use Rattle.epg_listen.specs.Lines.{junk_line, lost_line, lost_lines};
 
 use guide_receiver::{DoneKey, write_done};

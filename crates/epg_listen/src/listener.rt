@@ -4,7 +4,7 @@ ghost use Rattle.std.proofs.Common.{subst, sym};
 ghost use Rattle.packet_finder.specs.Pieces.{Piece.Packet, Piece.Junk};
 ghost use Rattle.sub_collect.specs.KeyCounts.{HaveFewKeys, HaveTooManyKeys};
 ghost use Rattle.sub_collect.proofs.MarksShown.{sections-free};
-ghost use Rattle.heard_completions.specs.Dones.{counted_heard};
+ghost use Rattle.guide_receiver.specs.Dones.{counted_heard};
 ghost use Rattle.strict_receiver.specs.Earlier.{counted_after};
 ghost use Rattle.strict_receiver.proofs.Apart.{sections_taken_after};
 ghost use Rattle.guide_receiver.specs.Heard.{ReceiverStandsFor};

@@ -19,8 +19,8 @@ use Rattle.desk_hall.specs.Reads.{HasReadCause, ToldDid, commands_by, control_st
 use Rattle.headend_jobs.specs.Callers.{CommandsAre}
 use Rattle.headend_jobs.specs.declared.live.LiveStop.{LiveStop}
 use Rattle.headend_jobs.specs.declared.live.LiveStop.TheVariants as live
-use Rattle.air_sending.specs.declared.send.SendStop.{SendStop}
-use Rattle.air_sending.specs.declared.send.SendStop.TheVariants as send
+use Rattle.journal_air.specs.declared.send.SendStop.{SendStop}
+use Rattle.journal_air.specs.declared.send.SendStop.TheVariants as send
 use Rattle.headend_jobs.specs.Stops.{after, and_stop, control_stop, feeds_stop, or_feed, run_stop}
 use Rattle.epg_live.specs.declared.reporting.Observed.{Observed}
 use Rattle.epg_report.specs.declared.status.Status.{Status}

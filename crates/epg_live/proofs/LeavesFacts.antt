@@ -17,17 +17,17 @@ use Rattle.air_model.specs.Air.{air_bytes}
 use Rattle.air_monitor.proofs.Packets.{told_taken}
 use Rattle.guide_screen.specs.declared.need.Heard.{Heard}
 use Rattle.guide_receiver.specs.Guides.{guide_of}
-use Rattle.journal_screen.specs.Shown.{IsAsRead}
-use Rattle.journal_screen.specs.Last.{EndsPublished, IsShownLast}
-use Rattle.journal_screen.proofs.Last.{journals_last}
+use Rattle.journal_air.specs.JournalScreenShown.{IsAsRead}
+use Rattle.journal_air.specs.Last.{EndsPublished, IsShownLast}
+use Rattle.journal_air.proofs.Last.{journals_last}
 use Rattle.headend_jobs.specs.declared.live.LiveStop.{LiveStop}
-use Rattle.air_sending.specs.declared.send.SendStop.{SendStop}
-use Rattle.air_sending.specs.declared.send.SendStop.TheVariants as send
-use Rattle.air_sending.specs.AirOf.{AirDid, AirOf}
+use Rattle.journal_air.specs.declared.send.SendStop.{SendStop}
+use Rattle.journal_air.specs.declared.send.SendStop.TheVariants as send
+use Rattle.journal_air.specs.AirOf.{AirDid, AirOf}
 use Rattle.headend_jobs.specs.Live.{LastMade}
 use Rattle.headend_jobs.specs.Stops.{and_stop, control_stop, feeds_stop, halts, run_stop, sent_stop}
 use Rattle.headend_live.specs.Watched.{guide_of_air}
-use Rattle.air_sending.proofs.Sent.{air_sent}
+use Rattle.journal_air.proofs.Sent.{air_sent}
 use Rattle.journal_text.specs.Back.{IsOfLines, IsWritten}
 use Rattle.headend_jobs.specs.Ticking.{tick_by, tick_of}
 use Rattle.headend_jobs.specs.Whole.{final_commands}

@@ -31,7 +31,7 @@ use Rattle.headend_jobs.specs.Live.{LastMade}
 use Rattle.headend_jobs.specs.Ran.{Taken}
 use Rattle.headend_jobs.specs.Stops.{feeds_stop, halts, run_stop}
 use Rattle.headend_jobs.specs.Ticking.{tick_of}
-use Rattle.air_sending.specs.declared.send.SendStop.{SendStop}
+use Rattle.journal_air.specs.declared.send.SendStop.{SendStop}
 use Rattle.headend_live.specs.declared.watched.LivePlan.{LivePlan}
 use Rattle.headend_live.specs.declared.watched.LiveEnd.{LiveEnd}
 use Rattle.headend_live.specs.Watched.{WatchedRan, watched_stop}

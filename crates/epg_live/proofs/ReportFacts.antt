@@ -17,7 +17,7 @@ use Rattle.guide_text.specs.Guides.{guide_text}
 use Rattle.air_monitor.specs.declared.done_line.DoneLine.{DoneLine}
 use Rattle.headend_live.specs.declared.views.ViewLine.{ViewLine}
 use Rattle.epg_report.specs.declared.status.Status.{Status}
-use Rattle.timed_player.specs.Tally.{Tallied}
+use Rattle.cycle_player.specs.Tally.{Tallied}
 use Rattle.epg_report.specs.Rates.{rate_line}
 use Rattle.epg_live.specs.Runs.{rate_text}
 use Rattle.epg_report.specs.Texts.{fault_line, fault_lines, fault_text, has_line}

@@ -7,9 +7,9 @@ use Rattle.input_lines.specs.declared.stop.EditStop.TheVariants as edit
 use Rattle.desk_hall.specs.Reads.{HasReadCause}
 use Rattle.headend_jobs.specs.declared.live.LiveStop.{LiveStop}
 use Rattle.headend_jobs.specs.declared.live.LiveStop.TheVariants as live
-use Rattle.air_sending.specs.declared.send.SendStop.{SendStop}
-use Rattle.air_sending.specs.declared.send.SendStop.TheVariants as send
-use Rattle.air_sending.specs.OnAir.{HasAirCause}
+use Rattle.journal_air.specs.declared.send.SendStop.{SendStop}
+use Rattle.journal_air.specs.declared.send.SendStop.TheVariants as send
+use Rattle.journal_air.specs.OnAir.{HasAirCause}
 use Rattle.headend_jobs.specs.Stops.{after, and_stop, control_stop, feed_stop, feeds_stop, or_feed, run_stop, sent_stop}
 use Rattle.headend_live.specs.Watched.{watched_stop}
 use Rattle.guide_screen.specs.declared.need.Heard.{Heard}

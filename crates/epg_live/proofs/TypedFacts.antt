@@ -29,8 +29,8 @@ use Rattle.desk_core.proofs.WindowFacts.{legal_window}
 use Rattle.turn_lock.specs.Journal.{entries_of}
 use Rattle.desk_hall.specs.Turn.{caller_of}
 use Rattle.desk_hall.specs.Reads.{commands_by, control_step, controls_ahead, edit_step}
-use Rattle.air_sending.specs.declared.send.SendStop.{SendStop}
-use Rattle.air_sending.specs.declared.send.SendStop.TheVariants as send
+use Rattle.journal_air.specs.declared.send.SendStop.{SendStop}
+use Rattle.journal_air.specs.declared.send.SendStop.TheVariants as send
 use Rattle.headend_jobs.specs.Callers.{CommandsAre, PlayerSwapped}
 use Rattle.journal_air.specs.Laws.{HasTypedEdits}
 use Rattle.journal_text.specs.Back.{IsOfLines, IsWritten}

@@ -3,9 +3,9 @@ use Rattle.std.specs.Prelude.{◌≡◌, ◌⊎◌, ◌≤◌, ℕ, List, [], �
 use Rattle.journal_model.specs.declared.step.Entry.{Entry}
 use Rattle.desk_core.specs.Desks.{DeskState}
 use Rattle.journal_text.specs.Entries.{journal_text}
-use Rattle.heard_completions.specs.declared.done.DoneKey.{DoneKey}
-use Rattle.heard_completions.specs.Dones.{at_packet}
-use Rattle.heard_completions.specs.Texts.{done_line}
+use Rattle.guide_receiver.specs.declared.done.DoneKey.{DoneKey}
+use Rattle.guide_receiver.specs.Dones.{at_packet}
+use Rattle.guide_receiver.specs.Texts.{done_line}
 use Rattle.guide_text.specs.Fields.{optional}
 use Rattle.guide_text.specs.Guides.{guide_text}
 use Rattle.air_monitor.specs.declared.done_line.DoneLine.{DoneLine}

@@ -8,8 +8,8 @@ use Rattle.input_lines.specs.Ahead.{Ahead, Came}
 use Rattle.journal_model.specs.declared.step.Entry.{Entry}
 use Rattle.journal_text.specs.Back.{IsOfLines}
 use Rattle.guide_screen.specs.declared.need.Heard.{Heard}
-use Rattle.journal_screen.specs.Last.{IsShownLast}
-use Rattle.air_sending.specs.SentAir.{SentAir}
+use Rattle.journal_air.specs.Last.{IsShownLast}
+use Rattle.journal_air.specs.SentAir.{SentAir}
 use Rattle.epg_report.specs.declared.status.Status.{Status}
 use Rattle.epg_report.specs.declared.status.Status.TheVariants.{Done, Memory}
 use Rattle.epg_report.specs.Told.{OpenerAsked, ReportTaken, SourceGave}

@@ -22,15 +22,15 @@ use Rattle.desk_hall.specs.Reads.{HasReadCause, ToldDid, commands_by, control_st
 use Rattle.turn_lock.specs.Journal.{entries_of}
 use Rattle.guide_screen.specs.declared.need.Heard.{Heard}
 use Rattle.air_monitor.specs.Heard.{lines_of_air}
-use Rattle.air_sending.specs.declared.send.SendStop.{SendStop}
+use Rattle.journal_air.specs.declared.send.SendStop.{SendStop}
 use Rattle.headend_jobs.specs.Callers.{CommandsAre, PlayerSwapped}
-use Rattle.air_sending.specs.AirOf.{AirDid}
+use Rattle.journal_air.specs.AirOf.{AirDid}
 use Rattle.headend_jobs.specs.Live.{LastMade}
 use Rattle.headend_jobs.specs.Stops.{feeds_stop, halts, run_stop}
 use Rattle.headend_jobs.specs.Posting.{posts_of}
 use Rattle.headend_jobs.specs.Ticking.{tick_of}
 use Rattle.headend_live.specs.Watched.{guide_of_air}
-use Rattle.timed_player.specs.Tally.{no_cycles}
+use Rattle.cycle_player.specs.Tally.{no_cycles}
 use Rattle.epg_report.specs.Rates.{rate_line, rate_lines}
 use Rattle.epg_report.specs.declared.status.Status.{Status}
 use Rattle.epg_report.specs.declared.status.Status.TheVariants.{Done, BadMux, TooLong, OpenFault, ReadFault, NoView}

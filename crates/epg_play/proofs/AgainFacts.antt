@@ -20,13 +20,13 @@ use Rattle.desk_core.specs.Journal.{LegalAfter, outcome_of}
 use Rattle.journal_model.specs.contracts.step.OutcomeEq.TheImpl.Laws as outcome_law
 use Rattle.journal_model.specs.Steps.{command_of}
 use Rattle.desk_core.specs.Desks.{DeskState, fresh}
-use Rattle.checkpoint_laws.specs.Going.{raised}
+use Rattle.desk_checkpoint.specs.Going.{raised}
 use Rattle.desk_core.proofs.JournalFacts.{journal_only}
 use Rattle.journal_text.specs.Back.{EntryReadsBack, IsReadable}
-use Rattle.command_text.specs.Back.{ahead_of, command_lines, shown_lines}
+use Rattle.journal_text.specs.CommandBack.{ahead_of, command_lines, shown_lines}
 use Rattle.journal_text.specs.Entries.{entry_text, journal_text}
 use Rattle.journal_text.proofs.EntryBack.{entries_read_back}
-use Rattle.air_sending.specs.OnAir.{and_step}
+use Rattle.journal_air.specs.OnAir.{and_step}
 use Rattle.epg_play.specs.Outcomes.{is_outcome}
 use Rattle.epg_play.specs.Script.{Script, Stop, Ended, Disagreed, difference, script_in, script_of_lines, script_with}
 use Rattle.epg_play.specs.Leaves.{whole_journal}

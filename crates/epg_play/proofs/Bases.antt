@@ -15,15 +15,15 @@ use Rattle.desk_core.specs.Journal.{Legal, LegalAfter, journal_after, outcome_of
 use Rattle.desk_core.proofs.JournalFacts.{journal_legal}
 use Rattle.cycle_player.specs.Airs.{AreMadeAt}
 use Rattle.cycle_player.specs.Tallies.{tally_of}
-use Rattle.timed_player.specs.Tally.{no_cycles}
+use Rattle.cycle_player.specs.Tally.{no_cycles}
 use Rattle.journal_air.specs.Air.{airing_at, airings}
-use Rattle.checkpoint_laws.specs.Steps.{checkpoint_steps, folded, shift_of}
-use Rattle.checkpoint_laws.specs.Going.{is_taken}
-use Rattle.checkpoint_laws.proofs.GoFacts.{journals_alike}
-use Rattle.checkpoint_laws.proofs.FoldFacts.{goes_on, steps_taken}
-use Rattle.checkpoint_laws.proofs.AirFacts.{air_goes_on, no_swaps}
-use Rattle.air_sending.specs.OnAir.{HasAired, IsPlayerOf}
-use Rattle.air_sending.specs.Tallied.{HasTallied}
+use Rattle.desk_checkpoint.specs.Steps.{checkpoint_steps, folded, shift_of}
+use Rattle.desk_checkpoint.specs.Going.{is_taken}
+use Rattle.desk_checkpoint.proofs.GoFacts.{journals_alike}
+use Rattle.desk_checkpoint.proofs.FoldFacts.{goes_on, steps_taken}
+use Rattle.desk_checkpoint.proofs.AirFacts.{air_goes_on, no_swaps}
+use Rattle.journal_air.specs.OnAir.{HasAired, IsPlayerOf}
+use Rattle.journal_air.specs.Tallied.{HasTallied}
 use Rattle.desk_checkpoint.specs.declared.start.Start.{Start}
 use Rattle.epg_play.proofs.GoingOn.{IsBase}
 

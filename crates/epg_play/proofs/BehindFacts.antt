@@ -18,12 +18,12 @@ use Rattle.cycle_player.specs.Sending.{Sending}
 use Rattle.cycle_player.specs.Tallies.{tally_of}
 use Rattle.cycle_player.proofs.Airs.{airings_are as cycle_airings}
 use Rattle.journal_air.specs.Air.{airings}
-use Rattle.journal_screen.proofs.Heard.{airs_heard}
-use Rattle.checkpoint_laws.specs.Going.{all_raised}
+use Rattle.journal_air.proofs.Heard.{airs_heard}
+use Rattle.desk_checkpoint.specs.Going.{all_raised}
 use Rattle.desk_checkpoint.specs.declared.start.Start.{Start}
 use Rattle.desk_checkpoint.specs.Text.{start_text}
-use Rattle.air_sending.specs.OnAir.{HasAired, HasAiredFront}
-use Rattle.air_sending.specs.Tallied.{HasTallied}
+use Rattle.journal_air.specs.OnAir.{HasAired, HasAiredFront}
+use Rattle.journal_air.specs.Tallied.{HasTallied}
 use Rattle.epg_report.specs.declared.status.Status.{Status}
 use Rattle.epg_report.specs.declared.status.Status.TheVariants.{Done, BadScript, Disagrees, ReadFault, TooLong as PastLimit, WriteFault}
 use Rattle.epg_report.specs.declared.status.Origin.TheVariants.{Input}

@@ -8,8 +8,8 @@ use Rattle.ts_packets.specs.declared.pid_counter.PidCounter.{PidCounter}
 use Rattle.ts_packets.specs.Bytes.{bytes_of_packet}
 use Rattle.ts_packets.specs.PidCounters.{AreCountersOf}
 use Rattle.air_model.specs.Air.{Aired, air, airings_of}
-use Rattle.air_paced.proofs.Airs.{timed_airs_are_airs}
-use Rattle.timed_player.specs.declared.clock.Clock.{Clock}
+use Rattle.cycle_timing.proofs.Airs.{timed_airs_are_airs}
+use Rattle.cycle_player.specs.declared.clock.Clock.{Clock}
 use Rattle.cycle_player.specs.Airs.{IsAirAt}
 use Rattle.cycle_player.specs.Sending.{AreKeptAt}
 use Rattle.desk_core.proofs.TypedFacts.{accepted_typed}

@@ -6,9 +6,9 @@ use Rattle.version_book.specs.declared.key_version.KeyVersion.{KeyVersion}
 use Rattle.ts_packets.specs.declared.pid_counter.PidCounter.{PidCounter}
 use Rattle.mux_model.specs.Sound.{HasSoundRate}
 use Rattle.air_model.specs.Air.{Aired}
-use Rattle.air_paced.specs.Clock.{Clock, at_swap, later}
-use Rattle.air_paced.specs.Cycle.{clock_after}
-use Rattle.timed_player.specs.declared.clock.Clock.{Clock as KeptClock}
+use Rattle.cycle_timing.specs.Clock.{Clock, at_swap, later}
+use Rattle.cycle_timing.specs.Cycle.{clock_after}
+use Rattle.cycle_player.specs.declared.clock.Clock.{Clock as KeptClock}
 use Rattle.cycle_player.specs.Sending.{AreKeptAt}
 use Rattle.desk_checkpoint.specs.Laws.{IsClockWritten}
 use Rattle.epg_play.specs.NeverRefused.{HasShortMoment}

@@ -23,17 +23,17 @@ use Rattle.script_lines.specs.declared.script.ScriptItem.{ScriptItem}
 use Rattle.script_lines.specs.declared.script.ScriptItem.TheVariants.{Step as step, Kept}
 use Rattle.script_lines.specs.Script.{asked_by, first_script_item, items_ahead, kept_first}
 use Rattle.script_lines.proofs.ItemsAhead.{items_step, items_kept, items_stop}
-use Rattle.air_sending.specs.OnAir.{and_step}
+use Rattle.journal_air.specs.OnAir.{and_step}
 use Rattle.epg_play.specs.declared.stop.PlayStop.{PlayStop}
-use Rattle.air_sending.specs.OnAir.{HasAired, AiredTo as OnAirTo}
-use Rattle.air_sending.specs.declared.send.SendStop.{SendStop}
-use Rattle.air_sending.specs.declared.send.SendStop.TheVariants as send
+use Rattle.journal_air.specs.OnAir.{HasAired, AiredTo as OnAirTo}
+use Rattle.journal_air.specs.declared.send.SendStop.{SendStop}
+use Rattle.journal_air.specs.declared.send.SendStop.TheVariants as send
 use Rattle.cycle_player.specs.Sending.{Sending}
 use Rattle.epg_play.specs.declared.stop.PlayStop.TheVariants.{NoMux, NoCommand as Refused, Disagrees, Read, Air, Memory}
 use Rattle.epg_play.specs.Script.{Stop, Ended, NoCommand, Disagreed, TooLong, Unread, commands_of, difference, first_difference, first_of, stop_of, up_to}
 use Rattle.epg_play.specs.Played.{AiredTo, HasAirCause, HasReadCause, IsBehindMux, IsDifference, PlayedWhole, RestDid, RestTaken, course_of, desk_after, late_difference, played_raised, read_stop, send_stop, unless_late}
 use Rattle.air_model.specs.Air.{Aired}
-use Rattle.checkpoint_laws.specs.Going.{all_raised, raised}
+use Rattle.desk_checkpoint.specs.Going.{all_raised, raised}
 use Rattle.epg_play.specs.Items.{AreDone, ItemDid, Stops, Went, course_at}
 
 -- commands and a stop

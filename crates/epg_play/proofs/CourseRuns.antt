@@ -17,9 +17,9 @@ use Rattle.journal_model.specs.Steps.{Command}
 use Rattle.desk_core.specs.Desks.{DeskState}
 use Rattle.cycle_player.specs.Airs.{IsAirAt}
 use Rattle.epg_play.specs.NeverRefused.{HasShortMoment}
-use Rattle.air_sending.specs.OnAir.{IsPlayerOf}
+use Rattle.journal_air.specs.OnAir.{IsPlayerOf}
 use Rattle.journal_air.specs.Air.{airings}
-use Rattle.checkpoint_laws.specs.Steps.{folded, shift_of}
+use Rattle.desk_checkpoint.specs.Steps.{folded, shift_of}
 use Rattle.desk_core.specs.Journal.{publishes}
 use Rattle.desk_checkpoint.specs.Checkpoints.{Checkpoint}
 use Rattle.epg_report.specs.declared.status.Status.{Status}

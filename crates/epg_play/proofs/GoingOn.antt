@@ -10,7 +10,7 @@ use Rattle.version_book.specs.Airings.{AiredTables}
 use Rattle.version_book.specs.Book.{GivenVersions, given_entries}
 use Rattle.ts_packets.specs.PidCounters.{kept_from}
 use Rattle.air_model.specs.Air.{Aired, airings_of}
-use Rattle.air_paced.specs.Clock.{Clock}
+use Rattle.cycle_timing.specs.Clock.{Clock}
 use Rattle.cycle_player.specs.Airs.{AreMadeAt, IsAirAt}
 use Rattle.cycle_player.specs.Sending.{AtEnd, Sending}
 use Rattle.cycle_player.proofs.Airs.{airings_are as cycle_airings}
@@ -25,16 +25,16 @@ use Rattle.desk_core.specs.Desks.{DeskState}
 use Rattle.desk_core.proofs.TypedFacts.{accepted_typed}
 use Rattle.script_lines.specs.Script.{asked_by, items_ahead}
 use Rattle.journal_air.specs.Air.{airings}
-use Rattle.journal_screen.specs.Shown.{IsAsRead}
-use Rattle.journal_screen.proofs.Heard.{airs_heard}
-use Rattle.checkpoint_laws.specs.Steps.{checkpoint_steps}
-use Rattle.checkpoint_laws.specs.Going.{GoOnAlike, all_raised, raised_entry}
-use Rattle.checkpoint_laws.proofs.GoFacts.{after_alike, all_legal, folds_again, journals_alike}
+use Rattle.journal_air.specs.JournalScreenShown.{IsAsRead}
+use Rattle.journal_air.proofs.Heard.{airs_heard}
+use Rattle.desk_checkpoint.specs.Steps.{checkpoint_steps}
+use Rattle.desk_checkpoint.specs.Going.{GoOnAlike, all_raised, raised_entry}
+use Rattle.desk_checkpoint.proofs.GoFacts.{after_alike, all_legal, folds_again, journals_alike}
 use Rattle.desk_checkpoint.specs.Text.{checkpoint_text, desk_steps, start_text}
 use Rattle.desk_checkpoint.specs.HandedOver.{AreHandedOver, HandsOver}
 use Rattle.epg_play.specs.NeverRefused.{HasShortMoment}
-use Rattle.timed_player.specs.Clock.{reads}
-use Rattle.air_sending.specs.OnAir.{HasAired, HasAiredFront, HasSentAll}
+use Rattle.cycle_player.specs.Clock.{reads}
+use Rattle.journal_air.specs.OnAir.{HasAired, HasAiredFront, HasSentAll}
 use Rattle.epg_report.specs.Told.{ReportTaken}
 use Rattle.epg_play.specs.Played.{course, desk_after}
 use Rattle.epg_play.specs.Script.{commands_of, first_difference, stop_of, up_to}

@@ -18,18 +18,18 @@ use Rattle.air_model.specs.Air.{air, air_bytes}
 use Rattle.air_model.specs.Repeating.{IsRepeatingAirOf}
 use Rattle.air_model.proofs.Airs.{repeating-whole}
 use Rattle.cycle_player.proofs.Airs.{air_repeats}
-use Rattle.heard_completions.specs.declared.done.DoneKey.{DoneKey}
+use Rattle.guide_receiver.specs.declared.done.DoneKey.{DoneKey}
 use Rattle.section_codec.specs.Tables.{is_counted}
-use Rattle.heard_completions.specs.Dones.{DoneAt, dones_of}
+use Rattle.guide_receiver.specs.Dones.{DoneAt, dones_of}
 use Rattle.section_codec.specs.declared.table.Key.{Key}
 use Rattle.section_codec.specs.declared.table.SubTable.{SubTable}
 use Rattle.section_codec.specs.KeyOrder.{is_key}
 use Rattle.section_codec.proofs.KeyOrderFacts.{is_key-same}
 use Rattle.section_codec.specs.Contents.{Content}
 use Rattle.version_book.specs.Airings.{AiredTables, content_in, carried}
-use Rattle.air_hearing.specs.Counting.{CanBeHeard}
-use Rattle.air_hearing.specs.Changes.{is_new_at, version_with, changes_of, is_done_key}
-use Rattle.air_hearing.proofs.Told.{changes_heard}
+use Rattle.air_laws.specs.Counting.{CanBeHeard}
+use Rattle.air_laws.specs.Changes.{is_new_at, version_with, changes_of, is_done_key}
+use Rattle.air_laws.proofs.HearingTold.{changes_heard}
 use Rattle.journal_air.specs.Air.{airings}
 use Rattle.journal_air.proofs.CarryFacts.{airings_heard, airings_counted}
 use Rattle.epg_play.specs.Script.{script_with, script_of_lines}

@@ -24,7 +24,7 @@ use Rattle.version_book.specs.Airings.{AiredTables, content_in}
 use Rattle.version_book.specs.Book.{GivenVersion, given_entry, given_entries}
 use Rattle.version_book.specs.Laws.{WasCarried}
 use Rattle.version_book.proofs.KeptEntries.{kept_was_carried}
-use Rattle.air_hearing.specs.Counting.{IsReadable, CanBeHeard}
+use Rattle.air_laws.specs.Counting.{IsReadable, CanBeHeard}
 use Rattle.publication.specs.Parts.{own_guide, remote_guide}
 use Rattle.publication.specs.Tables.{tables_of}
 use Rattle.publication.proofs.CountedFacts.{remotes_named}

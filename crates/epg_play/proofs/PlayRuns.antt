@@ -20,7 +20,7 @@ use Rattle.mux_config.specs.Texts.{described_taken}
 use Rattle.journal_model.specs.declared.step.Entry.{Entry}
 use Rattle.journal_text.specs.Entries.{journal_text}
 use Rattle.journal_air.specs.Air.{airings}
-use Rattle.air_sending.specs.AirOf.{AirOf}
+use Rattle.journal_air.specs.AirOf.{AirOf}
 use Rattle.epg_report.specs.declared.status.Status.{Status}
 use Rattle.epg_report.specs.declared.status.Status.TheVariants.{BadMux, BadScript, Disagrees, Done, Memory, ReadFault, TooLong as PastLimit, WriteFault}
 use Rattle.epg_report.specs.declared.status.Origin.TheVariants.{Input, Feed, Recording}

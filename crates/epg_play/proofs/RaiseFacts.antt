@@ -16,7 +16,7 @@ use Rattle.desk_core.proofs.DerivedFacts.{few_publishes}
 use Rattle.desk_core.proofs.LeanFacts.{step_numbered}
 use Rattle.desk_core.specs.Lean.{IsNumbered}
 use Rattle.journal_model.specs.Steps.{IsInWindow}
-use Rattle.checkpoint_laws.specs.Going.{raised}
+use Rattle.desk_checkpoint.specs.Going.{raised}
 use Rattle.desk_checkpoint.specs.Raising.{CanBeRaised}
 use Rattle.epg_play.proofs.WindowFacts.{at_place}
 

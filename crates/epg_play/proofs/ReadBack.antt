@@ -10,8 +10,8 @@ use Rattle.ts_packets.specs.Bytes.{bytes_of_packet}
 use Rattle.ts_packets.specs.PidCounters.{AreCountersOf}
 use Rattle.ts_packets.specs.declared.pid_counter.PidCounter.{PidCounter}
 use Rattle.air_model.specs.Air.{Aired, air, airings_of}
-use Rattle.timed_player.specs.Clock.{reads}
-use Rattle.timed_player.specs.declared.clock.Clock.{Clock}
+use Rattle.cycle_player.specs.Clock.{reads}
+use Rattle.cycle_player.specs.declared.clock.Clock.{Clock}
 use Rattle.cycle_player.specs.Sending.{AreKeptAt, AtEnd}
 use Rattle.cycle_player.proofs.Airs.{airings_are}
 use Rattle.version_book.specs.declared.key_version.KeyVersion.{KeyVersion}
@@ -20,8 +20,8 @@ use Rattle.desk_core.specs.Desks.{DeskState}
 use Rattle.mux_model.specs.declared.mux.Mux.{Mux}
 use Rattle.journal_model.specs.declared.step.Entry.{Entry}
 use Rattle.desk_core.specs.Journal.{publishes}
-use Rattle.command_text.specs.Back.{ahead_of, shown_lines}
-use Rattle.checkpoint_laws.specs.Steps.{checkpoint_steps, folded, shift_of}
+use Rattle.journal_text.specs.CommandBack.{ahead_of, shown_lines}
+use Rattle.desk_checkpoint.specs.Steps.{checkpoint_steps, folded, shift_of}
 use Rattle.desk_checkpoint.specs.declared.start.Start.{Start}
 use Rattle.desk_checkpoint.specs.Checkpoints.{Checkpoint}
 use Rattle.desk_checkpoint.specs.Laws.{IsCheckpointOf, clock_at}

@@ -12,7 +12,7 @@ use Rattle.journal_air.specs.Air.{airings}
 use Rattle.journal_text.specs.Back.{BeginsNoEntry}
 use Rattle.journal_text.specs.Entries.{journal_text}
 use Rattle.journal_text.proofs.Journals.{journals_end}
-use Rattle.timed_player.specs.Tally.{Tallied, least_rate}
+use Rattle.cycle_player.specs.Tally.{Tallied, least_rate}
 use Rattle.cycle_player.specs.Tallies.{tally_of}
 use Rattle.epg_report.specs.Rates.{kept_text, needed_text, rate_line}
 use Rattle.epg_play.specs.declared.stop.PlayStop.{PlayStop}

@@ -10,10 +10,10 @@ use Rattle.mux_model.specs.declared.mux.Mux.{Mux}
 use Rattle.journal_model.specs.declared.step.Entry.{Entry}
 use Rattle.desk_core.specs.Journal.{Legal}
 use Rattle.journal_air.specs.Air.{airings}
-use Rattle.journal_screen.specs.Shown.{IsAsRead}
-use Rattle.air_sending.specs.declared.send.SendStop.TheVariants as send
-use Rattle.air_sending.specs.OnAir.{cycle_bytes}
-use Rattle.air_sending.proofs.Sent.{air_sent}
+use Rattle.journal_air.specs.JournalScreenShown.{IsAsRead}
+use Rattle.journal_air.specs.declared.send.SendStop.TheVariants as send
+use Rattle.journal_air.specs.OnAir.{cycle_bytes}
+use Rattle.journal_air.proofs.Sent.{air_sent}
 use Rattle.epg_play.specs.Behind.{IsSentBehind}
 
 bytes_join : (xs ys : List Aired) → air_bytes (xs ++ ys) ≡ air_bytes xs ++ air_bytes ys

@@ -2,7 +2,7 @@
 use Rattle.std.proofs.Common.{◌≡◌, ℕ, List, [], take, refl, subst}
 use Rattle.std.specs.Prelude.{Option, Some, None, Ok, Err}
 use Rattle.std.specs.List.{AllByRecursion}
-use Rattle.si_text.specs.Decoding.{IsKept}
+use Rattle.guide_model.specs.Decoding.{IsKept}
 use Rattle.input_lines.specs.Lines.{record_lines}
 use Rattle.input_lines.specs.Ahead.{Ahead, Tail}
 use Rattle.mux_model.specs.declared.mux.MuxService.{MuxService}
@@ -14,10 +14,10 @@ use Rattle.mux_config.proofs.FineLines.{described_texts_are_kept}
 use Rattle.journal_model.specs.Steps.{Command}
 use Rattle.desk_core.specs.Journal.{journal_of}
 use Rattle.desk_core.proofs.JournalFacts.{journal_legal}
-use Rattle.journal_screen.specs.Shown.{IsAsRead}
-use Rattle.air_sending.specs.declared.send.SendStop.TheVariants as send
-use Rattle.air_sending.specs.AirOf.{CutAirOf}
-use Rattle.air_sending.proofs.Sent.{air_sent}
+use Rattle.journal_air.specs.JournalScreenShown.{IsAsRead}
+use Rattle.journal_air.specs.declared.send.SendStop.TheVariants as send
+use Rattle.journal_air.specs.AirOf.{CutAirOf}
+use Rattle.journal_air.proofs.Sent.{air_sent}
 use Rattle.epg_report.specs.Told.{ReportTaken}
 use Rattle.epg_play.specs.Script.{Script, script_of_lines}
 use Rattle.epg_play.specs.Leaves.{IsAired, IsAiredFront, IsSent, first_journal, journal_for, whole_journal}

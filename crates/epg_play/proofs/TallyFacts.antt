@@ -8,11 +8,11 @@ use Rattle.desk_core.specs.Desks.{DeskState}
 use Rattle.journal_air.specs.Air.{airings}
 use Rattle.cycle_player.specs.Sending.{Sending}
 use Rattle.cycle_player.specs.Tallies.{tally_of}
-use Rattle.air_sending.specs.OnAir.{IsPlayerOf, airing_on}
-use Rattle.air_sending.specs.Tallied.{CountedCycle, HasTallied, TalliedTo as OnAirTo}
-use Rattle.air_sending.specs.declared.send.SendStop.{SendStop}
-use Rattle.air_sending.specs.declared.send.SendStop.TheVariants as send
-use Rattle.air_sending.proofs.Tallied.{other_tallied, swap_tallied}
+use Rattle.journal_air.specs.OnAir.{IsPlayerOf, airing_on}
+use Rattle.journal_air.specs.Tallied.{CountedCycle, HasTallied, TalliedTo as OnAirTo}
+use Rattle.journal_air.specs.declared.send.SendStop.{SendStop}
+use Rattle.journal_air.specs.declared.send.SendStop.TheVariants as send
+use Rattle.journal_air.proofs.Tallied.{other_tallied, swap_tallied}
 use Rattle.journal_text.specs.Entries.{journal_text}
 use Rattle.epg_report.specs.Rates.{rate_line}
 use Rattle.epg_play.specs.declared.stop.PlayStop.{PlayStop}

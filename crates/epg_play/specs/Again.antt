@@ -9,7 +9,7 @@ use Rattle.journal_model.specs.declared.step.Entry.{Entry}
 use Rattle.desk_core.specs.Journal.{Legal}
 use Rattle.journal_model.specs.Steps.{command_of}
 use Rattle.journal_text.specs.Back.{IsReadable}
-use Rattle.command_text.specs.Back.{shown_lines}
+use Rattle.journal_text.specs.CommandBack.{shown_lines}
 use Rattle.journal_text.specs.Entries.{journal_text}
 use Rattle.epg_play.specs.Script.{Script, Ended, script_in}
 use Rattle.epg_play.specs.Leaves.{whole_journal}

@@ -5,10 +5,10 @@ use Rattle.si_causes.specs.Opening.{Files}
 use Rattle.si_causes.specs.declared.stop.ReadStop.TheVariants.{Failed, TooLong as Overlong}
 use Rattle.input_lines.specs.Ahead.{NoCommand, Stop, TooLong}
 use Rattle.cycle_player.specs.Sending.{AtEnd}
-use Rattle.timed_player.specs.Tally.{no_cycles}
+use Rattle.cycle_player.specs.Tally.{no_cycles}
 use Rattle.mux_model.specs.declared.mux.Mux.{Mux}
 use Rattle.desk_core.specs.Desks.{fresh}
-use Rattle.air_sending.specs.OnAir.{IsPlayerOf}
+use Rattle.journal_air.specs.OnAir.{IsPlayerOf}
 use Rattle.desk_checkpoint.specs.declared.start.Start.{Start}
 use Rattle.desk_checkpoint.specs.declared.start.CheckStop.{CheckStop}
 use Rattle.desk_checkpoint.specs.declared.start.CheckStop.TheVariants.{Line, Read, Memory as NoMemory}

@@ -13,9 +13,9 @@ use Rattle.desk_core.specs.Journal.{Legal, journal_after, publishes}
 use Rattle.script_lines.specs.Script.{items_ahead}
 use Rattle.journal_text.specs.Entries.{journal_text}
 use Rattle.journal_air.specs.Air.{airings}
-use Rattle.journal_screen.specs.Heard.{IsHeardAs}
-use Rattle.air_sending.specs.OnAir.{cycle_bytes}
-use Rattle.air_sending.specs.SentAir.{SentAir}
+use Rattle.journal_air.specs.Heard.{IsHeardAs}
+use Rattle.journal_air.specs.OnAir.{cycle_bytes}
+use Rattle.journal_air.specs.SentAir.{SentAir}
 use Rattle.epg_report.specs.declared.status.Status.{Status}
 use Rattle.epg_report.specs.declared.status.Status.TheVariants.{BadScript, Disagrees, Done, Memory, OpenFault, ReadFault, TooLong as PastLimit, WriteFault}
 use Rattle.epg_report.specs.declared.status.Origin.TheVariants.{Input, Recording}

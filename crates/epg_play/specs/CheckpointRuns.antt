@@ -9,7 +9,7 @@ use Rattle.air_model.specs.Air.{Aired}
 use Rattle.mux_model.specs.declared.mux.Mux.{Mux}
 use Rattle.journal_model.specs.declared.step.Entry.{Entry}
 use Rattle.journal_model.specs.Steps.{Command}
-use Rattle.checkpoint_laws.specs.Steps.{shift_of}
+use Rattle.desk_checkpoint.specs.Steps.{shift_of}
 use Rattle.desk_checkpoint.specs.Checkpoints.{Checkpoint}
 use Rattle.epg_report.specs.declared.status.Status.{Status}
 use Rattle.epg_report.specs.declared.status.Status.TheVariants.{BadCheckpoint, Done, Memory, OpenFault, ReadFault, TooLong as PastLimit, WriteFault}

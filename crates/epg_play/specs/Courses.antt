@@ -11,14 +11,14 @@ use Rattle.journal_model.specs.declared.step.Entry.{Entry}
 use Rattle.journal_model.specs.Steps.{Command, IsInWindow, IsStepInWindow, IsStepWithin}
 use Rattle.desk_core.specs.Desks.{DeskState}
 use Rattle.journal_text.specs.Entries.{journal_text}
-use Rattle.checkpoint_laws.specs.Going.{all_raised}
+use Rattle.desk_checkpoint.specs.Going.{all_raised}
 use Rattle.desk_checkpoint.specs.declared.start.Start.{Start}
 use Rattle.desk_checkpoint.specs.Raising.{CanBeRaised}
 use Rattle.desk_checkpoint.specs.Starts.{IsStart}
 use Rattle.desk_checkpoint.specs.HandedOver.{HandsOver}
 use Rattle.desk_checkpoint.specs.Text.{start_text}
-use Rattle.air_sending.specs.OnAir.{HasAired, IsPlayerOf}
-use Rattle.air_sending.specs.Tallied.{HasTallied}
+use Rattle.journal_air.specs.OnAir.{HasAired, IsPlayerOf}
+use Rattle.journal_air.specs.Tallied.{HasTallied}
 use Rattle.epg_report.specs.declared.status.Status.{Status}
 use Rattle.epg_report.specs.declared.status.Status.TheVariants.{BadMux, Done, Memory, WriteFault}
 use Rattle.epg_report.specs.declared.status.Outlet.TheVariants.{Report}

@@ -5,9 +5,9 @@ use Rattle.input_lines.specs.Ahead.{Tail}
 use Rattle.desk_core.specs.Journal.{journal_of}
 use Rattle.packet_reader.specs.Recordings.{RecordingEnd.AtEnd, packet_limit, recording}
 use Rattle.section_codec.specs.declared.table.Key.{Key}
-use Rattle.heard_completions.specs.Dones.{DoneAt, dones_of}
+use Rattle.guide_receiver.specs.Dones.{DoneAt, dones_of}
 use Rattle.air_model.specs.Air.{Aired, air, air_bytes}
-use Rattle.air_hearing.specs.Changes.{changes_of, is_done_key}
+use Rattle.air_laws.specs.Changes.{changes_of, is_done_key}
 use Rattle.journal_air.specs.Air.{airings}
 use Rattle.epg_play.specs.Script.{script_of_lines}
 use Rattle.cycle_player.specs.Airs.{IsAirAt}

@@ -8,7 +8,7 @@ use Rattle.journal_model.specs.declared.step.Step.{Step}
 use Rattle.journal_model.specs.declared.step.Outcome.{Outcome}
 use Rattle.journal_model.specs.Steps.{Command}
 use Rattle.desk_core.specs.Desks.{DeskState}
-use Rattle.air_sending.specs.OnAir.{and_step, is_swap}
+use Rattle.journal_air.specs.OnAir.{and_step, is_swap}
 use Rattle.epg_play.specs.declared.item.ItemDone.{ItemDone}
 use Rattle.epg_play.specs.declared.item.ItemDone.TheVariants as item
 use Rattle.epg_play.specs.declared.stop.PlayStop.{PlayStop}

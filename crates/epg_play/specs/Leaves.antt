@@ -12,8 +12,8 @@ use Rattle.journal_model.specs.declared.step.Entry.{Entry}
 use Rattle.desk_core.specs.Journal.{journal_of}
 use Rattle.journal_model.specs.Steps.{Command}
 use Rattle.journal_text.specs.Entries.{journal_text}
-use Rattle.air_sending.specs.AirOf.{AirOf, CutAirOf}
-use Rattle.air_sending.specs.SentAir.{SentAir}
+use Rattle.journal_air.specs.AirOf.{AirOf, CutAirOf}
+use Rattle.journal_air.specs.SentAir.{SentAir}
 use Rattle.epg_play.specs.declared.stop.PlayStop.{PlayStop}
 use Rattle.epg_play.specs.declared.stop.PlayStop.TheVariants.{NoMux as Undescribed, NoCommand as Refused, Disagrees as Differs, Read, Air as OnAir, Memory as NoMemory}
 use Rattle.epg_report.specs.declared.status.Status.{Status}

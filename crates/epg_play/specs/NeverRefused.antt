@@ -8,19 +8,19 @@ use Rattle.ts_packets.specs.declared.pid_counter.PidCounter.{PidCounter}
 use Rattle.ts_packets.specs.Bytes.{Packet, bytes_of_packet}
 use Rattle.ts_packets.specs.PidCounters.{IsPidCounter, AreCountersOf}
 use Rattle.air_model.specs.Air.{Aired, HasNoNull, air, airings_of}
-use Rattle.timed_player.specs.Clock.{reads}
-use Rattle.timed_player.specs.Playing.{clock_kept}
-use Rattle.timed_player.specs.declared.clock.Clock.{Clock}
+use Rattle.cycle_player.specs.Clock.{reads}
+use Rattle.cycle_player.specs.Playing.{clock_kept}
+use Rattle.cycle_player.specs.declared.clock.Clock.{Clock}
 use Rattle.cycle_player.specs.Airs.{IsAirAt}
 use Rattle.mux_model.specs.declared.mux.Mux.{Mux}
 use Rattle.mux_model.specs.Sound.{IsSoundWithIds}
 use Rattle.journal_model.specs.declared.step.Entry.{Entry}
 use Rattle.desk_core.specs.Journal.{Legal, publishes}
 use Rattle.input_lines.specs.Ahead.{Tail}
-use Rattle.command_text.specs.Back.{ahead_of}
+use Rattle.journal_text.specs.CommandBack.{ahead_of}
 use Rattle.journal_air.specs.Air.{airings}
 use Rattle.journal_air.specs.Laws.{HasTypedEdits}
-use Rattle.checkpoint_laws.specs.Steps.{checkpoint_steps}
+use Rattle.desk_checkpoint.specs.Steps.{checkpoint_steps}
 use Rattle.desk_checkpoint.specs.Checkpoints.{Checkpoint}
 use Rattle.desk_checkpoint.specs.Reads.{checkpoint_in}
 use Rattle.desk_checkpoint.specs.HandedOver.{AreHandedOver, DoPidsAscend}

@@ -19,11 +19,11 @@ use Rattle.journal_model.specs.Steps.{Command, IsInWindow}
 use Rattle.desk_core.specs.Desks.{DeskState}
 use Rattle.script_lines.specs.declared.script.ScriptItem.{ScriptItem}
 use Rattle.script_lines.specs.Script.{Asked, asked_by, items_ahead, kept_first}
-use Rattle.checkpoint_laws.specs.Going.{all_raised}
-use Rattle.air_sending.specs.OnAir.{HasAired, HasAiredFront}
-use Rattle.air_sending.specs.Tallied.{HasTallied}
-use Rattle.air_sending.specs.declared.send.SendStop.{SendStop}
-use Rattle.air_sending.specs.declared.send.SendStop.TheVariants as send
+use Rattle.desk_checkpoint.specs.Going.{all_raised}
+use Rattle.journal_air.specs.OnAir.{HasAired, HasAiredFront}
+use Rattle.journal_air.specs.Tallied.{HasTallied}
+use Rattle.journal_air.specs.declared.send.SendStop.{SendStop}
+use Rattle.journal_air.specs.declared.send.SendStop.TheVariants as send
 use Rattle.epg_play.specs.declared.stop.PlayStop.{PlayStop}
 use Rattle.epg_play.specs.declared.stop.PlayStop.TheVariants.{NoMux as Undescribed, NoCommand as Refused, Disagrees, Read, Air, Memory}
 use Rattle.epg_play.specs.Script.{Stop, Ended, NoCommand, Disagreed, TooLong, Unread, commands_of, difference, first_difference, stop_of, up_to}

@@ -7,10 +7,10 @@ ghost use Rattle.desk_checkpoint.specs.Starts.{IsStart};
 ghost use Rattle.epg_play.specs.Beginning.{BeginsAt, BeginsWith, HasFileCause, HasOpenCause, IsNew, IsNotBegun, IsRefused, check_status};
 ghost use Rattle.epg_play.specs.Checkpointed.{checkpoint_limit, checkpoint_of};
 
-use air_sending::open_player;
 use desk_checkpoint::{CheckStop, Start, read_checkpoint};
 use desk_core::Desk;
 use epg_report::{Origin, Status};
+use journal_air::open_player;
 use mux_model::Mux;
 use si_causes::{LineReader, Opener, ReadStop, Source};
 use std::alloc::{AllocError, Global};

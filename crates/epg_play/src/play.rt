@@ -5,15 +5,15 @@ ghost use Rattle.si_causes.specs.Reading.{text_left};
 ghost use Rattle.input_lines.specs.Ahead.{ahead};
 ghost use Rattle.air_model.specs.Air.{Aired};
 ghost use Rattle.desk_core.specs.Journal.{Legal};
-ghost use Rattle.air_sending.specs.OnAir.{HasAired, IsPlayerOf};
-ghost use Rattle.air_sending.specs.Tallied.{HasTallied};
+ghost use Rattle.journal_air.specs.OnAir.{HasAired, IsPlayerOf};
+ghost use Rattle.journal_air.specs.Tallied.{HasTallied};
 ghost use Rattle.epg_play.specs.Played.{AiredTo, HasAirCause, HasReadCause, IsBehindMux, IsStopInWindow, RestDid, RestTaken, TalliedTo, course, send_stop};
 
 use crate::item::{ItemDone, do_item};
 use crate::stop::PlayStop;
-use air_sending::{SendStop, send_on_air};
 use cycle_player::CyclePlayer;
 use desk_core::Desk;
+use journal_air::{SendStop, send_on_air};
 use si_causes::{LineReader, Sink, Source};
 use std::alloc::Global;
 

@@ -2,7 +2,7 @@
 ghost use Rattle.std.specs.Prelude.{◌≡◌, ◌<◌, ◌^◌, ◌++◌, [], true, Some, IfOk, IfSome, OnOk};
 ghost use Rattle.std.specs.List.{AllByRecursion};
 ghost use Rattle.journal_text.specs.Entries.{journal_text};
-ghost use Rattle.checkpoint_laws.specs.Going.{all_raised};
+ghost use Rattle.desk_checkpoint.specs.Going.{all_raised};
 ghost use Rattle.desk_checkpoint.specs.HandedOver.{HandsOver};
 ghost use Rattle.epg_report.specs.Texts.{CanBeSaid, fault_lines};
 ghost use Rattle.epg_report.specs.Told.{told};

@@ -3,7 +3,7 @@ use Rattle.std.specs.Prelude.{ℕ, ◌==◌, List, [], ◌++◌, Option, Some, N
 use Rattle.mux_model.specs.declared.mux.Mux.{Mux}
 use Rattle.journal_model.specs.declared.step.Entry.{Entry}
 use Rattle.journal_air.specs.Air.{airings}
-use Rattle.timed_player.specs.Tally.{Tallied, least_rate}
+use Rattle.cycle_player.specs.Tally.{Tallied, least_rate}
 use Rattle.cycle_player.specs.Tallies.{tally_of}
 
 -- a rate that would do, where there is one

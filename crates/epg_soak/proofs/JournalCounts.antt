@@ -6,7 +6,7 @@ use Rattle.journal_model.specs.declared.step.Step.{Step}
 use Rattle.journal_model.specs.declared.step.Step.TheVariants.{Edit, Tick, Publish, Swap}
 use Rattle.journal_model.specs.declared.step.Outcome.{Outcome}
 use Rattle.desk_core.specs.Journal.{accepted, accepted_by}
-use Rattle.workload_laws.specs.Journals.{edit_in, edits_in}
+use Rattle.epg_soak.specs.Journals.{edit_in, edits_in}
 use Rattle.si_lists.proofs.Counting.{counts_fewer}
 
 done_is_edit : (step : Step) (outcome : Outcome) → is_some (accepted_by step outcome) ≡ true → is_some (edit_in step) ≡ true

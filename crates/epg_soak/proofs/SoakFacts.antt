@@ -11,9 +11,9 @@ use Rattle.guide_screen.specs.declared.need.Heard.{Heard}
 use Rattle.guide_screen.specs.declared.need.Heard.TheVariants.{Whole}
 use Rattle.desk_core.specs.Journal.{accepted}
 use Rattle.desk_core.specs.Publications.{guide_after}
-use Rattle.publication_screen.specs.Screen.{screen_of}
-use Rattle.air_sending.specs.SentAir.{SentAir}
-use Rattle.air_sending.proofs.Sent.{air_sent}
+use Rattle.journal_air.specs.Screen.{screen_of}
+use Rattle.journal_air.specs.SentAir.{SentAir}
+use Rattle.journal_air.proofs.Sent.{air_sent}
 use Rattle.epg_report.specs.declared.status.Status.{Status}
 use Rattle.epg_report.specs.declared.status.Status.TheVariants.{Done, Usage, BadScript, Disagrees, BadMux, BadFeed, BadStream, TooLong, OpenFault, ReadFault, WriteFault, Memory, NoView, NotAir, Short, TooMany, BadCheckpoint}
 use Rattle.epg_report.specs.declared.status.Origin.TheVariants.{Input, Feed, Recording}
@@ -28,15 +28,15 @@ use Rattle.epg_live.specs.Ends.{HasMet, entries_of}
 use Rattle.epg_live.proofs.DecidedFacts.{met_decided}
 use Rattle.epg_live.proofs.LeavesFacts.{as_read, met_of, ran_shown}
 use Rattle.si_workload.specs.Texts.{feed_text}
-use Rattle.workload_laws.specs.Load.{soak_mux}
-use Rattle.workload_laws.specs.Laws.{control_behind}
-use Rattle.workload_laws.specs.Journals.{edits_in, item_lines}
-use Rattle.workload_laws.specs.Callers.{IsSoakRun}
-use Rattle.workload_laws.proofs.Closed.{description_read}
-use Rattle.workload_screen.proofs.Events.{runs_shown}
-use Rattle.workload_runs.specs.Runs.{HasMetDone, HaveFeedTexts, soak_text}
-use Rattle.workload_runs.proofs.Texts.{made_done}
-use Rattle.workload_runs.proofs.Journals.{done_counted, runs_whole}
+use Rattle.epg_soak.specs.WorkloadLoad.{soak_mux}
+use Rattle.epg_soak.specs.Laws.{control_behind}
+use Rattle.epg_soak.specs.Journals.{edits_in, item_lines}
+use Rattle.epg_soak.specs.Callers.{IsSoakRun}
+use Rattle.epg_soak.proofs.Closed.{description_read}
+use Rattle.epg_soak.proofs.WorkloadScreenEvents.{runs_shown}
+use Rattle.epg_soak.specs.Runs.{HasMetDone, HaveFeedTexts, soak_text}
+use Rattle.epg_soak.proofs.Texts.{made_done}
+use Rattle.epg_soak.proofs.WorkloadRunJournals.{done_counted, runs_whole}
 use Rattle.epg_soak.specs.Files.{soak_files}
 use Rattle.epg_soak.specs.Summary.{count_line, guide_lines, soak_summary, summary_text}
 use Rattle.epg_soak.specs.Load.{IsMetByLoad, LoadMet, is_reported, load_call}

@@ -1,3 +1,9 @@
+pub mod WorkloadLoad
+pub mod Laws
+pub mod Journals
+pub mod Callers
+pub mod Events
+pub mod Runs
 pub mod Files
 pub mod Summary
 pub mod SoakRun

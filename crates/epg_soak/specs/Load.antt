@@ -8,7 +8,7 @@ use Rattle.epg_report.specs.Told.{OpenerAsked, ReportTaken}
 use Rattle.epg_live.specs.declared.reporting.LiveResult.{LiveResult}
 use Rattle.epg_live.specs.Runs.{LiveCall, ReadFaults, read_faults}
 use Rattle.epg_live.specs.Met.{LiveMet}
-use Rattle.workload_runs.specs.Runs.{soak_text}
+use Rattle.epg_soak.specs.Runs.{soak_text}
 use Rattle.epg_soak.specs.Files.{soak_files, soak_paths}
 
 -- an opener of the load's files, none of which ever failed in a read, was asked

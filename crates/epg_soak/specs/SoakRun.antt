@@ -3,7 +3,7 @@ use Rattle.std.specs.Prelude.{◌≡◌, ◌⊎◌, ℕ, List, [], Option, Some}
 use Rattle.std.specs.Io.KnownBytes.{Appends}
 use Rattle.si_causes.specs.Causes.{Rose}
 use Rattle.journal_model.specs.declared.step.Entry.{Entry}
-use Rattle.air_sending.specs.SentAir.{SentAir}
+use Rattle.journal_air.specs.SentAir.{SentAir}
 use Rattle.epg_report.specs.declared.status.Status.{Status}
 use Rattle.epg_report.specs.declared.status.Status.TheVariants.{Done, WriteFault, Memory}
 use Rattle.epg_report.specs.declared.status.Outlet.TheVariants.{Air, Report}
@@ -11,8 +11,8 @@ use Rattle.epg_report.specs.Told.{ReportTaken, told}
 use Rattle.epg_live.specs.declared.reporting.Observed.{Observed}
 use Rattle.epg_live.specs.Runs.{Ran}
 use Rattle.epg_report.specs.Ends.{ReportEnds}
-use Rattle.workload_laws.specs.Load.{soak_mux}
-use Rattle.workload_laws.specs.Callers.{IsSoakRun}
+use Rattle.epg_soak.specs.WorkloadLoad.{soak_mux}
+use Rattle.epg_soak.specs.Callers.{IsSoakRun}
 use Rattle.epg_soak.specs.Load.{load_call}
 use Rattle.epg_soak.specs.Summary.{soak_summary, summary_text}
 

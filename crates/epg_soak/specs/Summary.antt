@@ -5,8 +5,8 @@ use Rattle.guide_screen.specs.declared.need.Heard.TheVariants.{Whole, Wanting}
 use Rattle.journal_model.specs.declared.step.Entry.{Entry}
 use Rattle.desk_core.specs.Journal.{accepted}
 use Rattle.si_workload.specs.Texts.{feed_text}
-use Rattle.workload_laws.specs.Journals.{edits_in, item_lines}
-use Rattle.workload_screen.specs.Events.{shown_events}
+use Rattle.epg_soak.specs.Journals.{edits_in, item_lines}
+use Rattle.epg_soak.specs.Events.{shown_events}
 
 -- a word and a number
 abbrev pub count_line : List ℕ → ℕ → List ℕ

@@ -10,11 +10,39 @@
 //! Tested by whole runs: the summaries of some numbers, a failing air or report.
 //!
 //! Not promised: that the threads overlap in time, and what is left with Memory.
+//!
+//! What the texts of `si_workload` are read as, and that each of their edits is done.
+//!
+//! It has no code, only definitions and laws. The description makes the multiplex `soak_mux`, the
+//! control has three pairs of a tick and a publish, and each feed has 60 edits
+//! (`made_description_is_read`, `made_feeds_are_read`). In each journal of this load every edit is
+//! done, in whatever order the feeds interleave (`made_edits_are_done`). At the end there are 120,
+//! and the guide has as many events as the feeds have lines of items. The journal of a whole run
+//! has 132 entries (`made_runs_are_counted`).
+//!
+//! A law: the screen after a whole run of the load has the events of all items.
+//!
+//! It has no code. However the callers interleave, the schedules on that screen have as many events
+//! as the feeds' texts have lines of items (`made_runs_are_shown`).
+//!
+//! Laws: what a run of `live` leaves over the texts of the load.
+//!
+//! It has no code. The made texts are whole, so they decide that the status is Done where nothing
+//! fails (`made_texts_are_whole`). A run of three cycles with status Done has a journal of 132
+//! entries, and each of its 120 edits is done (`done_runs_are_counted`).
 #![tactic(auto)]
 
 mod feed_texts;
 mod load;
 mod summary;
 mod top;
+mod workload_laws;
+mod workload_run_laws;
+mod workload_screen_laws;
 
 pub use top::run_soak;
+pub use workload_laws::{
+    made_description_is_read, made_edits_are_done, made_feeds_are_read, made_runs_are_counted,
+};
+pub use workload_run_laws::{done_runs_are_counted, made_texts_are_whole};
+pub use workload_screen_laws::made_runs_are_shown;

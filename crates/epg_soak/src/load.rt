@@ -2,7 +2,7 @@
 ghost use Rattle.std.specs.Prelude.{◌≡◌, ◌≤◌, ◌∷◌, [], IfOk};
 ghost use Rattle.command_words.specs.Commands.{texts};
 ghost use Rattle.epg_report.specs.Told.{told};
-ghost use Rattle.workload_runs.specs.Runs.{soak_text};
+ghost use Rattle.epg_soak.specs.Runs.{soak_text};
 ghost use Rattle.epg_soak.specs.Files.{soak_paths};
 ghost use Rattle.epg_soak.specs.Load.{LoadMet};
 

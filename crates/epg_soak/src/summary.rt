@@ -1,7 +1,7 @@
 // The summary of a run.
 ghost use Rattle.std.specs.Prelude.{◌≡◌, ◌≤◌, ◌++◌, IfOk, OnOk, is_some, length, codes, List, ℕ};
 ghost use Rattle.desk_core.specs.Journal.{accepted, accepted_by};
-ghost use Rattle.workload_laws.specs.Journals.{edit_in, edits_in};
+ghost use Rattle.epg_soak.specs.Journals.{edit_in, edits_in};
 ghost use Rattle.epg_soak.specs.Summary.{count_line, events_shown, guide_line, guide_lines, journal_lines, summary_text};
 
 use desk_core::{Entry, Outcome, Step};

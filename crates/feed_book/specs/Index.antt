@@ -8,7 +8,7 @@ use Rattle.feed_book.specs.declared.index.IndexedEvent.{IndexedEvent}
 use Rattle.journal_model.specs.declared.reply.DayFault.{DayFault}
 use Rattle.journal_model.specs.declared.reply.DayFault.TheVariants as fault
 use Rattle.journal_model.specs.declared.reply.Field.TheVariants as field
-use Rattle.desc_event.specs.EventDescriptors.{entry_size}
+use Rattle.descriptors.specs.EventDescriptors.{entry_size}
 use Rattle.guide_limits.specs.Events.{start_of, block_of}
 use Rattle.guide_limits.specs.Standing.{or_else}
 use Rattle.feed_book.specs.Replies.{refused_if}

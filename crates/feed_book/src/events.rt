@@ -12,11 +12,10 @@ ghost use Rattle.feed_book.specs.Places.{all_put};
 use crate::index::{IndexedEvent, place_of_id, put_at};
 use crate::new_event::{NewEvent, read_item};
 use crate::reading::{midnight, name_fault};
-use guide_model::{Event, Events, ServiceGuide};
+use guide_model::{Event, Events, ServiceGuide, Txt};
 use journal_model::{DayFault, Item, Reply};
 use page_share::{Leaf, Page};
 use si_base::Copies;
-use si_text::Txt;
 use std::alloc::{AllocError, Global};
 use std::marker::Model;
 

@@ -9,7 +9,7 @@ ghost use Rattle.guide_limits.specs.Limits.{IsEventWithin};
 ghost use Rattle.feed_book.specs.Index.{slot_of as slot_of_event, is_in_the_way, other_ids, share_of, slot_fault, AreSearchable};
 ghost use Rattle.feed_book.specs.Places.{IsPlace, put_at as item_at};
 
-use desc_event::event_len;
+use descriptors::event_len;
 use guide_model::Event;
 use journal_model::{DayFault, Field};
 

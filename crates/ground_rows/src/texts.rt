@@ -1,11 +1,11 @@
 // Texts, their coded forms, and the pieces of long ones.
 use crate::fields::put_numeral;
 use crate::notation::{append, put_written};
-use row_lines::Row;
-use si_base::Copies;
-use si_text::{
+use guide_model::{
     Shown, Txt, append_text, coded_len, cut_len, decode_text, encode_text, is_plain_byte,
 };
+use row_lines::Row;
+use si_base::Copies;
 
 /// What a call gives for a text.
 pub fn answer(row: &mut Row, call: &str, text: &str) {

@@ -1,6 +1,6 @@
 // Events and their parts.
+use crate::Txt;
 use si_base::{Copies, Items};
-use si_text::Txt;
 use si_time::Moment;
 use std::alloc::AllocError;
 

@@ -1,9 +1,9 @@
 // What the desk publishes.
 ghost use Rattle.std.specs.Prelude.{◌≡◌, IfOk};
 
+use crate::Txt;
 use crate::event::Events;
 use si_base::{Copies, Items};
-use si_text::Txt;
 use si_time::Moment;
 use std::alloc::AllocError;
 

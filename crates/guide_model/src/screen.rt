@@ -1,9 +1,9 @@
 // What a receiver shows.
+use crate::Shown;
 use crate::event::{Genres, Rating};
 use crate::offset::Offsets;
 use crate::stream::{Cable, Components};
 use si_base::Items;
-use si_text::Shown;
 use si_time::Moment;
 
 /// An event as it was heard: its id, start, duration in seconds, the language of its texts (three letters), its

@@ -5,3 +5,6 @@ pub mod Clocks
 pub mod FirstNumbers
 pub mod Whole
 pub mod WholeScreen
+pub mod WholeText
+pub mod Names
+pub mod HeardWhole

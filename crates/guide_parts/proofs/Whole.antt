@@ -10,12 +10,12 @@ use Rattle.guide_model.specs.declared.screen.ScreenEvent.{ScreenEvent}
 use Rattle.section_codec.specs.declared.table.Key.{Key}
 use Rattle.section_codec.specs.Contents.{Content, numbers_from, part_in}
 use Rattle.section_codec.specs.Keys.{eit_numbers_in}
-use Rattle.pat_pmt.specs.declared.pat.PatEntry.{PatEntry}
-use Rattle.nit_sdt.specs.declared.sdt.SdtService.{SdtService}
+use Rattle.table_bodies.specs.declared.pat.PatEntry.{PatEntry}
+use Rattle.table_bodies.specs.declared.sdt.SdtService.{SdtService}
 use Rattle.sub_collect.specs.Marks.{Taken, content_over, run_over}
 use Rattle.sub_collect.specs.Parts.{part_of, held}
 use Rattle.guide_screen.specs.View.{sections, pmt_key, eit_key, table_at}
-use Rattle.pat_pmt.specs.Pmt.{pmt_in}
+use Rattle.table_bodies.specs.Pmt.{pmt_in}
 use Rattle.guide_screen.specs.Reading.{events_in, value_in}
 use Rattle.guide_screen.specs.declared.need.Need.{Need}
 use Rattle.guide_screen.specs.Needs.{Want, unless, unmet, unmet_of, want_pmt, want_present, want_schedule, want_table, want_service, schedule_tables, with_service, by_service, last_beside, last_table, tables_to}

@@ -5,8 +5,8 @@ use Rattle.std.specs.List.{AllByRecursion}
 use Rattle.guide_model.specs.declared.screen.Screen.{Screen}
 use Rattle.section_codec.specs.declared.table.Key.{Key}
 use Rattle.section_codec.specs.Contents.{Content}
-use Rattle.pat_pmt.specs.declared.pat.PatEntry.{PatEntry}
-use Rattle.nit_sdt.specs.declared.sdt.SdtService.{SdtService}
+use Rattle.table_bodies.specs.declared.pat.PatEntry.{PatEntry}
+use Rattle.table_bodies.specs.declared.sdt.SdtService.{SdtService}
 use Rattle.sub_collect.specs.Marks.{Taken}
 use Rattle.guide_screen.specs.View.{View, sections, sdt_of, eit_key}
 use Rattle.guide_screen.specs.Reading.{programs_in, streams_in, services_in}

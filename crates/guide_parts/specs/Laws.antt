@@ -4,7 +4,7 @@ use Rattle.std.specs.List.{AllByRecursion}
 use Rattle.guide_model.specs.declared.screen.ScreenService.{ScreenService}
 use Rattle.guide_model.specs.declared.screen.Screen.{Screen}
 use Rattle.section_codec.specs.declared.table.Key.{Key}
-use Rattle.nit_sdt.specs.declared.sdt.SdtService.{SdtService}
+use Rattle.table_bodies.specs.declared.sdt.SdtService.{SdtService}
 use Rattle.sub_collect.specs.Marks.{Taken, content_over}
 use Rattle.guide_screen.specs.View.{View, sdt_of, eit_key}
 use Rattle.guide_screen.specs.Needs.{services_of}

@@ -3,18 +3,18 @@ use Rattle.std.specs.Prelude.{ℕ, Bool, true, false, not, ◌&&◌, ◌==◌, i
 use Rattle.std.specs.List.{flat_map}
 use Rattle.std.specs.Ordering.{nat_cmp}
 use Rattle.std.specs.BTreeMap.{insert_entry}
-use Rattle.si_text.specs.declared.shown.Shown.{Shown}
-use Rattle.si_text.specs.declared.shown.Shown.TheVariants.{Text}
+use Rattle.guide_model.specs.declared.shown.Shown.{Shown}
+use Rattle.guide_model.specs.declared.shown.Shown.TheVariants.{Text}
 use Rattle.si_time.specs.declared.moment.Moment.{Moment}
 use Rattle.guide_model.specs.declared.stream.Cable.{Cable}
 use Rattle.guide_model.specs.declared.screen.ScreenEvent.{ScreenEvent}
 use Rattle.section_codec.specs.declared.table.Key.{Key}
 use Rattle.section_codec.specs.Contents.{Content}
 use Rattle.section_codec.specs.Keys.{eit_numbers_in}
-use Rattle.pat_pmt.specs.declared.pat.PatEntry.{PatEntry}
-use Rattle.pat_pmt.specs.declared.pmt.Pmt.{Pmt}
-use Rattle.nit_sdt.specs.declared.nit.NitStream.{NitStream}
-use Rattle.nit_sdt.specs.declared.sdt.SdtService.{SdtService}
+use Rattle.table_bodies.specs.declared.pat.PatEntry.{PatEntry}
+use Rattle.table_bodies.specs.declared.pmt.Pmt.{Pmt}
+use Rattle.table_bodies.specs.declared.nit.NitStream.{NitStream}
+use Rattle.table_bodies.specs.declared.sdt.SdtService.{SdtService}
 use Rattle.guide_screen.specs.View.{sdt_of, eit_key}
 use Rattle.guide_screen.specs.Reading.{programs_in, streams_in, services_in, events_in}
 use Rattle.guide_screen.specs.Needs.{last_beside, tables_to, needs}

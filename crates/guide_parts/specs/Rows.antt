@@ -1,8 +1,8 @@
 -- Worked screens of parts.
 use Rattle.std.specs.Prelude.{◌≡◌, ℕ, List, [], ◌∷◌, map, if◌then◌else◌, Option, Some, None, refl, codes}
 use Rattle.std.specs.Str.{chars}
-use Rattle.si_text.specs.declared.shown.Shown.{Shown}
-use Rattle.si_text.specs.declared.shown.Shown.TheVariants.{Text}
+use Rattle.guide_model.specs.declared.shown.Shown.{Shown}
+use Rattle.guide_model.specs.declared.shown.Shown.TheVariants.{Text}
 use Rattle.si_time.specs.Readings.{moment_from_bcd, duration_from_bcd}
 use Rattle.guide_model.specs.declared.screen.ScreenEvent.{ScreenEvent}
 use Rattle.section_codec.specs.declared.table.Key.{Key}

@@ -24,12 +24,11 @@ use guide_screen::{
     Latest, Needs, cable_in, copied, is_other, needs_of, network_name, other_stream, programs_in,
     programs_of, services_of, streams_in,
 };
-use nit_sdt::NitStream;
-use pat_pmt::PatEntry;
 use section_codec::Key;
 use si_base::Items;
 use std::alloc::{AllocError, Global};
 use sub_collect::Collector;
+use table_bodies::{NitStream, PatEntry};
 
 /// What a receiver has to show of the sub-tables that it heard, whole or not: the needs that are not
 /// met, in order, as `heard_guide` gives them, and a screen of all that it holds (ISO/IEC 13818-1,

@@ -8,10 +8,10 @@ ghost use Rattle.guide_parts.specs.PartScreen.{program_ids, is_eit_of, event_ids
 use crate::keys::is_own_eit;
 use crate::part_screen::Listed;
 use guide_screen::services_in;
-use pat_pmt::PatEntry;
 use section_codec::{Key, NumberedBody};
 use std::alloc::{AllocError, Global};
 use std::collections::BTreeMap;
+use table_bodies::PatEntry;
 
 // Appends the numbers of programs but 0.
 fn put_program_ids(ids: &mut Vec<u16>, programs: &[PatEntry]) -> Result<(), AllocError>

@@ -1,10 +1,9 @@
 // What is shown of parts.
-use guide_model::{Cable, Components, Offsets, ScreenEvent, ScreenEvents, ScreenOthers};
+use guide_model::{Cable, Components, Offsets, ScreenEvent, ScreenEvents, ScreenOthers, Shown};
 use guide_screen::Needs;
-use nit_sdt::SdtService;
 use si_base::Items;
-use si_text::Shown;
 use si_time::Moment;
+use table_bodies::SdtService;
 
 // A service by its id, with its entry of the SDT, where it has one.
 #[derive(Drop)]

@@ -1,6 +1,6 @@
 // What is shown of services.
 ghost use Rattle.std.specs.Prelude.{◌≡◌, [], map, option_map, IfOk};
-ghost use Rattle.si_text.specs.declared.shown.Shown.TheVariants.{Text};
+ghost use Rattle.guide_model.specs.declared.shown.Shown.TheVariants.{Text};
 ghost use Rattle.section_codec.specs.declared.table.Key.{Key};
 ghost use Rattle.section_codec.specs.Contents.{Content};
 ghost use Rattle.guide_parts.specs.Holding.{KeepsParts};
@@ -8,14 +8,13 @@ ghost use Rattle.guide_parts.specs.PartScreen.{name_by, provider_by, service_on,
 
 use crate::part_screen::{Listed, PartService, PartServices};
 use crate::tables::{pmt_held, schedule_held, table_held};
+use guide_model::{Shown, Txt};
 use guide_screen::{clock_and_components, event_at, pids_of, pmt_pid};
-use nit_sdt::SdtService;
-use pat_pmt::PatEntry;
 use section_codec::Key;
 use si_base::Items;
-use si_text::{Shown, Txt};
 use std::alloc::{AllocError, Global};
 use sub_collect::Collector;
+use table_bodies::{PatEntry, SdtService};
 
 // The service_type, and the names of the provider and of the service; empty ones without an entry.
 fn names_by(

@@ -8,11 +8,11 @@ ghost use Rattle.guide_parts.specs.PartScreen.{part_at, table_held, last_told, e
 
 use guide_model::{ScreenEvent, ScreenEvents};
 use guide_screen::{eit_key, pmt_key, pmt_told, put_events, tables_to};
-use pat_pmt::Pmt;
 use section_codec::{Key, NumberedBody};
 use si_base::Items;
 use std::alloc::{AllocError, Global};
 use sub_collect::{Collector, Part};
+use table_bodies::Pmt;
 
 // What is held of a key, where there is one.
 pub(crate) fn part_at(

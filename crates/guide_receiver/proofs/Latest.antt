@@ -29,9 +29,9 @@ use Rattle.sub_collect.specs.Completions.{dones}
 use Rattle.sub_collect.specs.declared.completed.Completed.{Completed}
 use Rattle.sub_collect.proofs.Done.{dones-go_on}
 use Rattle.guide_screen.specs.View.{View, sdt_of, sdt_behind}
-use Rattle.heard_completions.specs.declared.done.DoneKey.{DoneKey}
+use Rattle.guide_receiver.specs.declared.done.DoneKey.{DoneKey}
 use Rattle.guide_receiver.specs.declared.latest_keys.LatestKeys.{LatestKeys}
-use Rattle.heard_completions.specs.Dones.{done_key}
+use Rattle.guide_receiver.specs.Dones.{done_key}
 use Rattle.guide_receiver.specs.Latest.{LatestKept, sdt_in, last_of, keys_shown, is_pat_key, is_nit_key, is_sdt_key, is_other_sdt_key, other_sdts, short_by, moment_by, moment_in, clock_of, offsets_by, offsets_in, offsets_heard, AreLatest, IsClock}
 
 last-push : {X : Type 0} (xs : List X) (x : X) → last_of (xs ++ x ∷ []) ≡ Some x

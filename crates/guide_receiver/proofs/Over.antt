@@ -9,10 +9,10 @@ use Rattle.sub_collect.specs.Marks.{Taken, Taken.Took, Taken.Forgot, Taken.Forgo
 use Rattle.sub_collect.specs.declared.completed.Completed.{Completed}
 use Rattle.sub_collect.proofs.Marking.{mark_free}
 use Rattle.sub_collect.proofs.MarksShown.{shown_over-key, dones_over-append, dones-free, sections-free}
-use Rattle.heard_completions.specs.declared.done.DoneKey.{DoneKey}
-use Rattle.heard_completions.specs.Counting.{counted_among}
-use Rattle.heard_completions.specs.Dones.{counted_heard, done_key, dones_by}
-use Rattle.heard_completions.proofs.Shown.{keyed, by_version, listed, counted-push}
+use Rattle.guide_receiver.specs.declared.done.DoneKey.{DoneKey}
+use Rattle.guide_receiver.specs.Counting.{counted_among}
+use Rattle.guide_receiver.specs.Dones.{counted_heard, done_key, dones_by}
+use Rattle.guide_receiver.proofs.Shown.{keyed, by_version, listed, counted-push}
 use Rattle.guide_receiver.specs.Latest.{keys_shown, keys_shown_over, last_of, is_pat_key, is_nit_key, is_sdt_key, other_sdts, clock_of, offsets_heard}
 use Rattle.guide_receiver.specs.Guides.{view_of, view_over}
 use Rattle.guide_receiver.specs.Heard.{Hearing, took_by, ReceiverStandsFor, ReceiverStandsOver}

@@ -7,7 +7,7 @@ use Rattle.guide_screen.specs.View.{View}
 use Rattle.guide_screen.specs.Holding.{content_in}
 use Rattle.guide_screen.specs.Screen.{heard_of}
 use Rattle.guide_screen.specs.declared.need.Heard.{Heard}
-use Rattle.heard_completions.specs.Dones.{counted_heard}
+use Rattle.guide_receiver.specs.Dones.{counted_heard}
 use Rattle.guide_receiver.specs.Latest.{last_of, keys_shown, keys_shown_over, is_pat_key, is_nit_key, is_sdt_key, other_sdts, clock_of, offsets_heard}
 
 -- What is heard: of each key the content that it completed last; of the PAT, of the NIT and of the SDT of each

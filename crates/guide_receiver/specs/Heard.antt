@@ -8,9 +8,9 @@ use Rattle.sub_collect.specs.Marks.{Taken, all_took}
 use Rattle.sub_collect.specs.Collectors.{KeysHeard, CollectorStandsOver, IsRepeated}
 use Rattle.si_time.specs.declared.moment.Moment.{Moment}
 use Rattle.guide_model.specs.declared.offset.Offset.{Offset}
-use Rattle.heard_completions.specs.Counting.{counted_in, counted_among}
+use Rattle.guide_receiver.specs.Counting.{counted_in, counted_among}
 use Rattle.guide_receiver.specs.Latest.{LatestKept, keys_shown_over, AreLatest, IsClock, offsets_heard}
-use Rattle.heard_completions.specs.Dones.{counted_heard}
+use Rattle.guide_receiver.specs.Dones.{counted_heard}
 
 -- what a receiver keeps: its demultiplexer, its collector, the keys that were completed last, and the moment and the offsets that it heard
 -- last

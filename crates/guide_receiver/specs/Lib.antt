@@ -1,3 +1,6 @@
+pub mod Counting
+pub mod Dones
+pub mod Texts
 pub mod Latest
 pub mod Heard
 pub mod Known

@@ -7,8 +7,8 @@ use Rattle.si_time.specs.Readings.{readings_compute}
 use Rattle.guide_screen.specs.declared.need.Need.TheVariants.{Pat, Nit, Sdt, Clock, Pmt, Present, Schedule}
 use Rattle.guide_screen.specs.declared.need.Heard.TheVariants.{Wanting}
 use Rattle.guide_receiver.specs.Guides.{view_of, guide_of}
-use Rattle.heard_completions.specs.Dones.{dones_of}
-use Rattle.heard_completions.specs.Texts.{done_lines}
+use Rattle.guide_receiver.specs.Dones.{dones_of}
+use Rattle.guide_receiver.specs.Texts.{done_lines}
 
 abbrev pub row_packet : List ℕ
 row_packet =

@@ -3,12 +3,12 @@ ghost use Rattle.std.specs.Prelude.{◌≡◌, ◌≤◌, ◌<◌, Some, IfOk, I
 ghost use Rattle.section_codec.specs.Section.{long_body};
 ghost use Rattle.sub_collect.specs.Runs.{counted};
 ghost use Rattle.sub_collect.specs.Collectors.{KeysHeard, IsRepeated};
-ghost use Rattle.heard_completions.specs.Counting.{counted_in};
+ghost use Rattle.guide_receiver.specs.Counting.{counted_in};
 ghost use Rattle.guide_receiver.specs.Heard.{CountsAgain};
 ghost use Rattle.guide_receiver.specs.Known.{IsKnown, AreKnown};
 
 use crate::known_section::KnownSection;
-use heard_completions::{CountedSection, counted_section};
+use crate::{CountedSection, counted_section};
 use si_base::Items;
 use std::alloc::{AllocError, Global};
 use std::collections::HashMap;

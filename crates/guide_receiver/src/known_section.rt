@@ -2,9 +2,9 @@
 ghost use Rattle.std.specs.Prelude.{◌≡◌, ◌≤◌, Some, IfOk, length, true};
 ghost use Rattle.section_codec.specs.Section.{long_body};
 ghost use Rattle.sub_collect.specs.Runs.{counted};
-ghost use Rattle.heard_completions.specs.Counting.{counted_in};
+ghost use Rattle.guide_receiver.specs.Counting.{counted_in};
 
-use heard_completions::CountedSection;
+use crate::CountedSection;
 use section_codec::{Key, LongHeader};
 use si_base::Items;
 use std::alloc::{AllocError, Global};

@@ -9,9 +9,20 @@
 //! (`too_many`, `few`). [`Receiver::guide`] gives exactly the guide of these packets: the needs
 //! that are not met, or the whole screen (`guide_of`). After `Memory` and `TooMany` nothing more is
 //! promised of a receiver. Not promised: that a repeated section costs no CRC.
+//!
+//! Which sections of a packet list count, and the completions that they give (ISO/IEC 13818-1,
+//! 2.4.4; EN 300 468, 5.1).
+//!
+//! A section counts where it is current, is of PAT, PMT, NIT, SDT or event information, of this
+//! stream or of another, and its body is one of its table. [`counted_section`] gives the section
+//! that counts, or `None` exactly where it does not. The completions of a packet list are
+//! `dones_of` (`specs/Dones.antt`). [`write_done`] appends the `done` line of a completion, or
+//! nothing where memory runs out.
 #![tactic(auto)]
 
 mod clock;
+mod counting;
+mod done;
 mod known;
 mod known_section;
 mod latest_keys;
@@ -19,6 +30,7 @@ mod offsets;
 mod receiver;
 mod short;
 
+pub use counting::{CountedSection, counted_section};
+pub use done::{DoneKey, Dones, write_done};
 pub use guide_screen::{Heard, Need, Needs};
-pub use heard_completions::{DoneKey, Dones, write_done};
 pub use receiver::{HearStop, Receiver};

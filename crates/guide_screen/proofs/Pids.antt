@@ -5,7 +5,7 @@ use Rattle.std.specs.Prelude.{if◌then◌else◌, cond, ◌==◌, nat_lt}
 use Rattle.std.specs.BTreeMap.{get, Updates}
 use Rattle.std.proofs.lemmas.Bool.{ltb-true, eqb-true, false_from_ne_true}
 use Rattle.std.proofs.lemmas.List.{drop_more}
-use Rattle.pat_pmt.specs.declared.pat.PatEntry.{PatEntry}
+use Rattle.table_bodies.specs.declared.pat.PatEntry.{PatEntry}
 use Rattle.guide_screen.specs.Screen.{pid_in}
 
 -- keys that compare as equal are equal

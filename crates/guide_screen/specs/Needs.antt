@@ -4,8 +4,8 @@ use Rattle.std.specs.List.{flat_map}
 use Rattle.section_codec.specs.declared.table.Key.{Key}
 use Rattle.section_codec.specs.Contents.{Content, numbers_from}
 use Rattle.section_codec.specs.Keys.{eit_numbers_in}
-use Rattle.pat_pmt.specs.declared.pat.PatEntry.{PatEntry}
-use Rattle.nit_sdt.specs.declared.sdt.SdtService.{SdtService}
+use Rattle.table_bodies.specs.declared.pat.PatEntry.{PatEntry}
+use Rattle.table_bodies.specs.declared.sdt.SdtService.{SdtService}
 use Rattle.guide_screen.specs.declared.need.Need.{Need}
 use Rattle.guide_screen.specs.declared.need.Need.TheVariants.{Pat, Nit, Sdt, Clock, Pmt, Present, Schedule}
 use Rattle.guide_screen.specs.View.{View, sections_at, sdt_of, pmt_key, eit_key, table_at}

@@ -4,13 +4,13 @@ use Rattle.std.specs.List.{flat_map}
 use Rattle.guide_model.specs.declared.screen.ScreenEvent.{ScreenEvent}
 use Rattle.section_codec.specs.declared.table.NumberedBody.{NumberedBody}
 use Rattle.section_codec.specs.Contents.{Content, part_in}
-use Rattle.pat_pmt.specs.declared.pat.PatEntry.{PatEntry}
-use Rattle.pat_pmt.specs.Pat.{pat_in}
-use Rattle.nit_sdt.specs.declared.nit.NitStream.{NitStream}
-use Rattle.nit_sdt.specs.declared.sdt.SdtService.{SdtService}
-use Rattle.nit_sdt.specs.Nit.{nit_in}
-use Rattle.nit_sdt.specs.Sdt.{sdt_in}
-use Rattle.eit_codec.specs.Eit.{eit_in}
+use Rattle.table_bodies.specs.declared.pat.PatEntry.{PatEntry}
+use Rattle.table_bodies.specs.Pat.{pat_in}
+use Rattle.table_bodies.specs.declared.nit.NitStream.{NitStream}
+use Rattle.table_bodies.specs.declared.sdt.SdtService.{SdtService}
+use Rattle.table_bodies.specs.Nit.{nit_in}
+use Rattle.table_bodies.specs.Sdt.{sdt_in}
+use Rattle.table_bodies.specs.Eit.{eit_in}
 
 -- what the bodies of all sections list, in order
 abbrev pub listed : {X : Type 0} → (List ℕ → Option (List X)) → Content → List X

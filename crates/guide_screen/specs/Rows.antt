@@ -1,7 +1,7 @@
 -- Worked screens and needs.
 use Rattle.std.specs.Prelude.{◌≡◌, ℕ, true, List, [], ◌∷◌, if◌then◌else◌, Option, Some, None, refl, codes}
 use Rattle.std.specs.Str.{chars}
-use Rattle.si_text.specs.declared.shown.Shown.TheVariants.{Text}
+use Rattle.guide_model.specs.declared.shown.Shown.TheVariants.{Text}
 use Rattle.si_time.specs.Readings.{moment_from_bcd, duration_from_bcd}
 use Rattle.guide_model.specs.declared.screen.ScreenEvent.{ScreenEvent}
 use Rattle.guide_model.specs.declared.screen.Screen.{Screen}
@@ -9,15 +9,15 @@ use Rattle.guide_model.specs.declared.screen.ScreenOther.{ScreenOther}
 use Rattle.section_codec.specs.declared.table.Key.{Key}
 use Rattle.section_codec.specs.KeyOrder.{is_key}
 use Rattle.section_codec.specs.Contents.{Content}
-use Rattle.nit_sdt.specs.declared.sdt.SdtService.{SdtService}
-use Rattle.eit_codec.specs.declared.eit.Eit.{Eit}
+use Rattle.table_bodies.specs.declared.sdt.SdtService.{SdtService}
+use Rattle.table_bodies.specs.declared.eit.Eit.{Eit}
 use Rattle.guide_screen.specs.declared.need.Need.TheVariants.{Pat, Nit, Sdt, Clock, Pmt, Present, Schedule}
 use Rattle.guide_screen.specs.declared.need.Heard.TheVariants.{Whole, Wanting}
 use Rattle.guide_screen.specs.View.{View, pmt_key, eit_key}
-use Rattle.pat_pmt.specs.Pmt.{pmt_in}
-use Rattle.nit_sdt.specs.Nit.{nit_in}
-use Rattle.nit_sdt.specs.Sdt.{sdt_in}
-use Rattle.eit_codec.specs.Eit.{eit_in}
+use Rattle.table_bodies.specs.Pmt.{pmt_in}
+use Rattle.table_bodies.specs.Nit.{nit_in}
+use Rattle.table_bodies.specs.Sdt.{sdt_in}
+use Rattle.table_bodies.specs.Eit.{eit_in}
 use Rattle.guide_screen.specs.Needs.{by_service}
 use Rattle.guide_screen.specs.Screen.{heard_of}
 

@@ -2,8 +2,8 @@
 use Rattle.std.specs.Prelude.{◌≡◌, ◌≢◌, ◌↔◌, ℕ, Bool, not, ◌&&◌, List, [], ◌∷◌, ◌==◌, if◌then◌else◌, Option, Some, None, map, filter, option_map}
 use Rattle.std.specs.Prelude.{option_and_then, unwrap_or}
 use Rattle.std.specs.List.{flat_map}
-use Rattle.si_text.specs.declared.shown.Shown.{Shown}
-use Rattle.si_text.specs.declared.shown.Shown.TheVariants.{Text}
+use Rattle.guide_model.specs.declared.shown.Shown.{Shown}
+use Rattle.guide_model.specs.declared.shown.Shown.TheVariants.{Text}
 use Rattle.guide_model.specs.declared.stream.Cable.{Cable}
 use Rattle.guide_model.specs.declared.screen.ScreenEvent.{ScreenEvent}
 use Rattle.guide_model.specs.declared.screen.ScreenService.{ScreenService}
@@ -12,18 +12,18 @@ use Rattle.guide_model.specs.declared.screen.ScreenOther.{ScreenOther}
 use Rattle.guide_model.specs.declared.screen.Screen.{Screen}
 use Rattle.section_codec.specs.declared.table.Key.{Key}
 use Rattle.section_codec.specs.Contents.{Content}
-use Rattle.pat_pmt.specs.declared.pat.PatEntry.{PatEntry}
-use Rattle.pat_pmt.specs.declared.pmt.Pmt.{Pmt}
-use Rattle.nit_sdt.specs.declared.nit.NitStream.{NitStream}
-use Rattle.nit_sdt.specs.declared.sdt.SdtService.{SdtService}
-use Rattle.eit_codec.specs.declared.eit.Eit.{Eit}
+use Rattle.table_bodies.specs.declared.pat.PatEntry.{PatEntry}
+use Rattle.table_bodies.specs.declared.pmt.Pmt.{Pmt}
+use Rattle.table_bodies.specs.declared.nit.NitStream.{NitStream}
+use Rattle.table_bodies.specs.declared.sdt.SdtService.{SdtService}
+use Rattle.table_bodies.specs.declared.eit.Eit.{Eit}
 use Rattle.guide_screen.specs.declared.need.Need.{Need}
 use Rattle.guide_screen.specs.declared.need.Heard.{Heard}
 use Rattle.guide_screen.specs.declared.need.Heard.TheVariants.{Whole, Wanting}
 use Rattle.guide_screen.specs.View.{View, sections, sdt_of, pmt_key, table_at}
-use Rattle.pat_pmt.specs.Pmt.{pmt_in}
-use Rattle.nit_sdt.specs.Nit.{nit_in}
-use Rattle.eit_codec.specs.Eit.{eit_in}
+use Rattle.table_bodies.specs.Pmt.{pmt_in}
+use Rattle.table_bodies.specs.Nit.{nit_in}
+use Rattle.table_bodies.specs.Eit.{eit_in}
 use Rattle.guide_screen.specs.Reading.{streams_in, services_in, events_in, value_in}
 use Rattle.guide_screen.specs.Needs.{programs_of, by_service, services_of, last_table, tables_to, needs}
 

@@ -2,21 +2,21 @@
 ghost use Rattle.std.specs.Prelude.{◌≡◌, ◌++◌, [], option_map, unwrap_or, IfOk, OnOk};
 ghost use Rattle.section_codec.specs.Contents.{part_in};
 ghost use Rattle.guide_screen.specs.Reading.{programs_in, streams_in, services_in, events_in, value_in};
-ghost use Rattle.pat_pmt.specs.Pmt.{pmt_in};
-ghost use Rattle.nit_sdt.specs.Nit.{nit_in};
-ghost use Rattle.nit_sdt.specs.Sdt.{sdt_in};
-ghost use Rattle.eit_codec.specs.Eit.{eit_in};
+ghost use Rattle.table_bodies.specs.Pmt.{pmt_in};
+ghost use Rattle.table_bodies.specs.Nit.{nit_in};
+ghost use Rattle.table_bodies.specs.Sdt.{sdt_in};
+ghost use Rattle.table_bodies.specs.Eit.{eit_in};
 ghost use Rattle.guide_screen.specs.Needs.{last_table};
 ghost use Rattle.guide_screen.specs.Screen.{first_of, event_at, network_name};
 
-use eit_codec::read_eit;
-use guide_model::{ScreenEvent, ScreenEvents};
-use nit_sdt::{NitStream, NitStreams, SdtService, SdtServices, read_nit, read_sdt};
-use pat_pmt::{PatEntry, Pmt, read_pat, read_pmt};
+use guide_model::{ScreenEvent, ScreenEvents, Shown, Txt};
 use section_codec::NumberedBody;
 use si_base::Items;
-use si_text::{Shown, Txt};
 use std::alloc::{AllocError, Global};
+use table_bodies::{
+    NitStream, NitStreams, PatEntry, Pmt, SdtService, SdtServices, read_eit, read_nit, read_pat,
+    read_pmt, read_sdt,
+};
 
 // The body of the section with this number.
 fn part_in(content: &[NumberedBody], number: u8) -> Option<&[u8]>

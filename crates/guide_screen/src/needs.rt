@@ -10,11 +10,10 @@ ghost use Rattle.guide_screen.specs.Needs.{want_pmt, want_present, want_schedule
 use crate::content_values::last_table;
 use crate::contents::{Latest, eit_key, is_completed, pmt_key, sections_of};
 use crate::need::Need;
-use nit_sdt::SdtService;
-use pat_pmt::PatEntry;
 use section_codec::Key;
 use std::alloc::{AllocError, Global};
 use sub_collect::Collector;
+use table_bodies::{PatEntry, SdtService};
 
 // Appends a need where it is not met; want of memory changes nothing.
 pub(crate) fn put_unless(needs: &mut Vec<Need>, need: Need, met: bool) -> Result<(), AllocError>

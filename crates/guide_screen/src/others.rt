@@ -10,11 +10,11 @@ use crate::contents::{eit_key, sections_of};
 use crate::schedule::schedule_of;
 use crate::services::services_of;
 use guide_model::{Cable, ScreenOther, ScreenOthers, ScreenRemote, ScreenRemotes};
-use nit_sdt::{NitStream, SdtService};
 use section_codec::Key;
 use si_base::Items;
 use std::alloc::{AllocError, Global};
 use sub_collect::Collector;
+use table_bodies::{NitStream, SdtService};
 
 /// The cable of the first of these streams with these ids.
 pub fn cable_in(streams: &[NitStream], stream: u16, original: u16) -> Option<Cable>

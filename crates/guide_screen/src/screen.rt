@@ -4,7 +4,7 @@ ghost use Rattle.std.specs.BTreeMap.{get};
 ghost use Rattle.std.specs.Ordering.{nat_cmp};
 ghost use Rattle.section_codec.specs.declared.table.Key.{Key};
 ghost use Rattle.section_codec.specs.Contents.{Content};
-ghost use Rattle.pat_pmt.specs.declared.pat.PatEntry.{PatEntry};
+ghost use Rattle.table_bodies.specs.declared.pat.PatEntry.{PatEntry};
 ghost use Rattle.guide_screen.specs.View.{View};
 ghost use Rattle.guide_screen.specs.Holding.{KeepsContents};
 ghost use Rattle.guide_screen.specs.Needs.{programs_of, services_of};
@@ -15,14 +15,13 @@ use crate::contents::{eit_key, pmt_key, sections_of};
 use crate::others::{cable_in, other_streams};
 use crate::schedule::schedule_of;
 use guide_model::{Components, Offset, Offsets, Screen, ScreenService, ScreenServices};
-use nit_sdt::SdtService;
-use pat_pmt::{PatEntry, Pmt};
 use section_codec::Key;
 use si_base::Items;
 use si_time::Moment;
 use std::alloc::{AllocError, Global};
 use std::collections::BTreeMap;
 use sub_collect::Collector;
+use table_bodies::{PatEntry, Pmt, SdtService};
 
 /// Of each program the PID of its first entry.
 pub fn pids_of(alloc: Global, programs: &[PatEntry]) -> Result<BTreeMap<u16, u16>, AllocError>

@@ -11,12 +11,11 @@ ghost use Rattle.guide_screen.specs.Holding.{KeepsContents};
 
 use crate::content_values::{programs_in, services_in};
 use crate::contents::sections_at;
-use nit_sdt::SdtService;
-use pat_pmt::PatEntry;
 use section_codec::Key;
 use std::alloc::{AllocError, Global};
 use std::collections::BTreeMap;
 use sub_collect::Collector;
+use table_bodies::{PatEntry, SdtService};
 
 /// The programs of this PAT.
 pub fn programs_of(

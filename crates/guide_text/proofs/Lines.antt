@@ -3,7 +3,7 @@ use Rattle.std.proofs.Common.{◌≡◌, ℕ, ◌++◌, ◌∷◌, [], List, ref
 use Rattle.std.specs.Prelude.{decimal, if◌then◌else◌, Result, Ok, Err, is_ok, OnOk}
 use Rattle.std.specs.List.{join_with_byte}
 use Rattle.guide_model.specs.declared.screen.ScreenEvent.{ScreenEvent}
-use Rattle.field_text.specs.Genres.{genres_text}
+use Rattle.guide_model.specs.Genres.{genres_text}
 use Rattle.guide_text.specs.Fields.{shown_text, code_text, moment_field, duration_field, optional}
 use Rattle.guide_text.specs.Guides.{country_text, value_text, event_line}
 

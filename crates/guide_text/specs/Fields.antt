@@ -4,8 +4,8 @@ use Rattle.std.specs.Char.{is_ascii_alphabetic}
 use Rattle.std.specs.List.{list_all}
 use Rattle.hex.specs.Hex.{encode_lower}
 use Rattle.si_time.specs.Moments.{moment_text, duration_text}
-use Rattle.si_text.specs.declared.shown.Shown.{Shown}
-use Rattle.si_text.specs.declared.shown.Shown.TheVariants.{Text, Hex}
+use Rattle.guide_model.specs.declared.shown.Shown.{Shown}
+use Rattle.guide_model.specs.declared.shown.Shown.TheVariants.{Text, Hex}
 
 -- bytes, each as two lower-case hexadecimal digits
 abbrev pub hex_text : List ℕ → List ℕ

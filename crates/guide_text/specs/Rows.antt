@@ -3,7 +3,7 @@ use Rattle.std.specs.Prelude.{◌≡◌, ℕ, ◌*◌, Bool, true, false, [], �
 use Rattle.std.specs.Fmt.{digits}
 use Rattle.hex.specs.Hex.{encode_with}
 use Rattle.si_time.specs.Moments.{moments_compute}
-use Rattle.si_text.specs.declared.shown.Shown.TheVariants.{Text, Hex}
+use Rattle.guide_model.specs.declared.shown.Shown.TheVariants.{Text, Hex}
 use Rattle.guide_model.specs.declared.screen.ScreenEvent.{ScreenEvent}
 use Rattle.guide_model.specs.declared.screen.ScreenService.{ScreenService}
 use Rattle.guide_model.specs.declared.screen.ScreenRemote.{ScreenRemote}

@@ -1,6 +1,6 @@
 // The line of an event.
 ghost use Rattle.std.specs.Prelude.{◌≡◌, ◌++◌, ◌∷◌, Option, OnOk, decimal, flat_map};
-ghost use Rattle.field_text.specs.Genres.{genres_text};
+ghost use Rattle.guide_model.specs.Genres.{genres_text};
 ghost use Rattle.guide_text.specs.Fields.{shown_text, code_text, moment_field, duration_field, optional};
 ghost use Rattle.guide_text.specs.Guides.{country_text, value_text, event_line};
 

@@ -2,12 +2,11 @@
 ghost use Rattle.std.specs.Prelude.{◌≡◌, ◌++◌, ◌∷◌, IfOk, OnOk, Option, decimal};
 ghost use Rattle.std.specs.Char.{is_ascii_alphabetic};
 ghost use Rattle.std.specs.List.{list_all};
-ghost use Rattle.field_text.specs.Genres.{genres_text};
+ghost use Rattle.guide_model.specs.Genres.{genres_text};
 ghost use Rattle.guide_text.specs.Fields.{hex_text, shown_text, code_text, moment_field, duration_field, optional};
 
-use guide_model::Genre;
+use guide_model::{Genre, Shown};
 use si_base::put_number;
-use si_text::Shown;
 use si_time::{Moment, write_duration, write_moment};
 use std::alloc::{AllocError, Global};
 
@@ -124,5 +123,5 @@ pub(crate) fn put_genres(
     ensures { OnOk result (out.new.items ≡ out.old.items ++ 9 ∷ genres_text genres.now) }
 {
     out.extend_from_slice(b"\t")?;
-    field_text::put_genres(alloc, out, genres)
+    guide_model::put_genres(alloc, out, genres)
 }

@@ -26,13 +26,13 @@ use Rattle.desk_core.specs.Journal.{publishes}
 use Rattle.desk_core.specs.Publications.{aired_by, publication}
 use Rattle.desk_core.specs.Desks.{on_air_of}
 use Rattle.desk_core.proofs.JournalFacts.{publication_stays}
-use Rattle.air_sending.specs.declared.send.SendStop.TheVariants.{Air}
-use Rattle.air_sending.specs.OnAir.{IsPlayerOf, airing_by, cycle_bytes}
+use Rattle.journal_air.specs.declared.send.SendStop.TheVariants.{Air}
+use Rattle.journal_air.specs.OnAir.{IsPlayerOf, airing_by, cycle_bytes}
 use Rattle.journal_air.specs.Air.{airings_by, mux_form}
-use Rattle.air_sending.specs.Tallied.{HasCounted}
-use Rattle.air_sending.proofs.Tallied.{counted_more}
-use Rattle.air_sending.proofs.SwapFacts.{airings-append, publishes-front}
-use Rattle.air_sending.proofs.AirFacts.{on_air_services}
+use Rattle.journal_air.specs.Tallied.{HasCounted}
+use Rattle.journal_air.proofs.Tallied.{counted_more}
+use Rattle.journal_air.proofs.SwapFacts.{airings-append, publishes-front}
+use Rattle.journal_air.proofs.AirFacts.{on_air_services}
 use Rattle.turn_lock.proofs.Lists.{prefix_trans}
 use Rattle.desk_hall.specs.Turn.{View, entry_of, desk_with, Made}
 use Rattle.headend_jobs.specs.Playing.{airing_with_tables, ArePutOnAir, HasPlayedTo, HasPlayedFront, HasPlayedSome, SwapSent, GoesOn}

@@ -15,9 +15,9 @@ use Rattle.journal_model.specs.declared.step.Step.{Step}
 use Rattle.journal_model.specs.declared.step.Entry.{Entry}
 use Rattle.journal_model.specs.Steps.{Command, command_of}
 use Rattle.cycle_player.specs.Sending.{Sending}
-use Rattle.air_sending.specs.declared.send.SendStop.{SendStop}
-use Rattle.air_sending.specs.declared.send.SendStop.TheVariants.{Air}
-use Rattle.air_sending.specs.declared.send.SendStop.TheVariants as wanting
+use Rattle.journal_air.specs.declared.send.SendStop.{SendStop}
+use Rattle.journal_air.specs.declared.send.SendStop.TheVariants.{Air}
+use Rattle.journal_air.specs.declared.send.SendStop.TheVariants as wanting
 use mathlib.Core.List.{IsPrefix}
 use Rattle.si_time.specs.declared.moment.Moment.{Moment}
 use Rattle.cycle_player.specs.Making.{tick_then}

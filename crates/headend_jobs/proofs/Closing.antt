@@ -22,7 +22,7 @@ use Rattle.headend_jobs.specs.Ticking.{Ticked}
 use Rattle.headend_jobs.proofs.Ticking.{did_join, tick_entries}
 use Rattle.headend_jobs.specs.Whole.{IsWhole, JournalDid, SwapsNot}
 use Rattle.desk_hall.proofs.Passes.{did_idle, did_more, did_none, made_knows, more_more}
-use Rattle.air_sending.proofs.SwapFacts.{airings-append, swaps-append}
+use Rattle.journal_air.proofs.SwapFacts.{airings-append, swaps-append}
 use Rattle.headend_jobs.proofs.WholeJournal.{of, rest_is, front_whole, swaps_part, of_mine, of_other}
 
 -- ---- entries of one caller

@@ -15,8 +15,8 @@ use Rattle.journal_model.specs.declared.step.Outcome.TheVariants.{Published}
 use Rattle.journal_model.specs.declared.step.Entry.{Entry}
 use Rattle.desk_core.specs.Journal.{Legal}
 use Rattle.journal_model.specs.Steps.{Command, command_of}
-use Rattle.air_sending.specs.declared.send.SendStop.{SendStop}
-use Rattle.air_sending.specs.declared.send.SendStop.TheVariants.{Air, Memory}
+use Rattle.journal_air.specs.declared.send.SendStop.{SendStop}
+use Rattle.journal_air.specs.declared.send.SendStop.TheVariants.{Air, Memory}
 use Rattle.journal_air.specs.Air.{airing_at, airings, airings_by}
 use Rattle.turn_lock.specs.declared.known.Caller.{Caller}
 use Rattle.turn_lock.specs.Knowledge.{Closes}
@@ -25,16 +25,16 @@ use Rattle.desk_hall.specs.Turn.{View, caller_of, entry_of, with_entries, Made, 
 use Rattle.headend_jobs.specs.Playing.{HasPlayedTo, HasPlayedFront, HasPlayedSome, SwapsPlayed, TurnsBegun, TurnsMade, swaps_by}
 use Rattle.headend_jobs.specs.Ticking.{Ticked, tick_by, tick_now, turns_by}
 use Rattle.headend_jobs.specs.Whole.{JournalDid, SwapsNot, final_commands}
-use Rattle.air_sending.specs.AirOf.{AirOf, CutAirOf, SomeAirOf, AirDid}
-use Rattle.air_sending.specs.Tallied.{IsTallyOf}
-use Rattle.timed_player.specs.Tally.{Tallied}
+use Rattle.journal_air.specs.AirOf.{AirOf, CutAirOf, SomeAirOf, AirDid}
+use Rattle.journal_air.specs.Tallied.{IsTallyOf}
+use Rattle.cycle_player.specs.Tally.{Tallied}
 use Rattle.cycle_player.specs.Tallies.{tally_of}
 use Rattle.headend_jobs.specs.Live.{EndDid, FinalDid, Halted, LastDid, PlayedAs, TallyDid, Went, and_sent, halts}
 use Rattle.desk_hall.proofs.Passes.{made_began, more_none}
 use Rattle.headend_jobs.proofs.Airs.{own_air, put_longer}
 use Rattle.headend_jobs.proofs.Closing.{AllMade, TurnsDone, airs_final, closed_final, closed_plain, commands_made, swaps_own, tick_turns, turns_gained, went_turns}
 use Rattle.headend_jobs.proofs.Ticking.{tick_airs, tick_began, tick_commands, tick_entries, tick_low, turns_plain}
-use Rattle.air_sending.proofs.SwapFacts.{airings-append}
+use Rattle.journal_air.proofs.SwapFacts.{airings-append}
 
 abbrev Known : Type 0
 Known = Option (List ℕ)

@@ -8,8 +8,8 @@ use Rattle.si_causes.specs.Reading.{Reading}
 use Rattle.mux_model.specs.Sound.{IsSound}
 use Rattle.mux_model.specs.declared.mux.Mux.{Mux}
 use Rattle.turn_lock.specs.Knowledge.{TableId}
-use Rattle.air_sending.specs.declared.send.SendStop.{SendStop}
-use Rattle.air_sending.specs.OnAir.{HasAirCause}
+use Rattle.journal_air.specs.declared.send.SendStop.{SendStop}
+use Rattle.journal_air.specs.OnAir.{HasAirCause}
 use Rattle.desk_hall.specs.Turn.{View}
 use Rattle.headend_jobs.specs.declared.crew.Crew.{Crew}
 use Rattle.headend_jobs.specs.declared.jobs.ControlJob.{ControlJob}

@@ -34,7 +34,7 @@ use Rattle.headend_jobs.specs.Ticking.{Ticked}
 use Rattle.headend_jobs.specs.Whole.{JournalDid}
 use Rattle.headend_jobs.proofs.Ticking.{tick_aired}
 use Rattle.headend_jobs.proofs.Airs.{swap_number}
-use Rattle.air_sending.proofs.SwapFacts.{swaps-append}
+use Rattle.journal_air.proofs.SwapFacts.{swaps-append}
 
 -- ---- what can be posted
 

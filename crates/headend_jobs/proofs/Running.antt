@@ -15,7 +15,7 @@ use Rattle.cycle_player.specs.Making.{tick_then}
 use Rattle.cycle_player.specs.Sending.{AtEnd, AtEndAt, Sending}
 use Rattle.cycle_player.specs.Tallies.{tally_of}
 use Rattle.cycle_player.proofs.Making.{end_tells}
-use Rattle.timed_player.specs.Tally.{no_cycles}
+use Rattle.cycle_player.specs.Tally.{no_cycles}
 use Rattle.air_model.specs.Air.{Aired}
 use Rattle.journal_model.specs.declared.control.Control.{Control}
 use Rattle.journal_model.specs.declared.control.Control.TheVariants.{Tick, Publish}
@@ -24,9 +24,9 @@ use Rattle.journal_model.specs.declared.step.Step.{Step}
 use Rattle.journal_model.specs.declared.step.Entry.{Entry}
 use Rattle.journal_model.specs.Steps.{Command, command_of}
 use Rattle.journal_air.specs.Air.{airings, airings_by}
-use Rattle.air_sending.specs.declared.send.SendStop.{SendStop}
-use Rattle.air_sending.specs.declared.send.SendStop.TheVariants.{Air, Memory}
-use Rattle.air_sending.specs.OnAir.{HasAirCause, IsPlayerOf, is_swap}
+use Rattle.journal_air.specs.declared.send.SendStop.{SendStop}
+use Rattle.journal_air.specs.declared.send.SendStop.TheVariants.{Air, Memory}
+use Rattle.journal_air.specs.OnAir.{HasAirCause, IsPlayerOf, is_swap}
 use Rattle.turn_lock.specs.declared.known.Caller.{Caller}
 use Rattle.turn_lock.specs.Knowledge.{HasAny, TableId}
 use Rattle.desk_hall.specs.Turn.{Did, View}

@@ -15,9 +15,9 @@ use Rattle.journal_model.specs.declared.step.Outcome.TheVariants.{Swapped}
 use Rattle.journal_model.specs.declared.step.Entry.{Entry}
 use Rattle.journal_model.specs.Steps.{Command}
 use Rattle.journal_air.specs.Air.{airing_at, airings_by}
-use Rattle.air_sending.specs.declared.send.SendStop.{SendStop}
-use Rattle.air_sending.specs.declared.send.SendStop.TheVariants.{Air, Memory}
-use Rattle.air_sending.proofs.SwapFacts.{airings-append}
+use Rattle.journal_air.specs.declared.send.SendStop.{SendStop}
+use Rattle.journal_air.specs.declared.send.SendStop.TheVariants.{Air, Memory}
+use Rattle.journal_air.proofs.SwapFacts.{airings-append}
 use Rattle.turn_lock.proofs.Lists.{prefix_trans}
 use Rattle.desk_hall.specs.Turn.{View, entry_of, Made, Idle, Did}
 use Rattle.headend_jobs.specs.Ticking.{Ticked, tick_by, tick_now, ticks_for, turns_by}

@@ -22,7 +22,7 @@ use Rattle.journal_air.specs.Air.{airing_at, airings, airings_by}
 use Rattle.turn_lock.proofs.Lists.{prefix_self, prefix_trans}
 use Rattle.desk_hall.specs.Turn.{View, entry_of, with_entries, Made, Knows, Did}
 use Rattle.desk_hall.proofs.Passes.{made_began, more_more}
-use Rattle.air_sending.proofs.SwapFacts.{airings-append}
+use Rattle.journal_air.proofs.SwapFacts.{airings-append}
 use Rattle.headend_jobs.specs.Playing.{swaps_by}
 use Rattle.headend_jobs.specs.Ticking.{Ticked, tick_by, tick_of, ticks_for, ticks_of, turns_by}
 use Rattle.headend_jobs.proofs.WholeJournal.{swaps_none}

@@ -14,13 +14,13 @@ use Rattle.journal_model.specs.declared.step.Entry.{Entry}
 use Rattle.desk_core.specs.Journal.{Legal, LegalAfter, moment_of, outcome_of}
 use Rattle.desk_core.specs.Publications.{aired_by, swaps}
 use Rattle.desk_core.proofs.DerivedFacts.{not_aired}
-use Rattle.air_sending.specs.OnAir.{is_swap}
+use Rattle.journal_air.specs.OnAir.{is_swap}
 use Rattle.turn_lock.specs.declared.known.Caller.{Caller}
 use Rattle.turn_lock.specs.Journal.{entries_of}
 use Rattle.turn_lock.specs.Knowledge.{NotLowest}
 use Rattle.desk_hall.specs.Turn.{caller_of}
 use Rattle.headend_jobs.specs.Whole.{IsWhole, NoSwaps, SwapsNot}
-use Rattle.air_sending.proofs.SwapFacts.{swaps-append}
+use Rattle.journal_air.proofs.SwapFacts.{swaps-append}
 
 abbrev pub of : ℕ → List Entry → List Entry
 of k journal = entries_of caller_of k journal

@@ -9,7 +9,7 @@ use Rattle.cycle_player.specs.Sending.{AtEnd}
 use Rattle.journal_model.specs.declared.step.Entry.{Entry}
 use Rattle.turn_lock.specs.declared.known.Caller.{Caller}
 use Rattle.turn_lock.specs.Knowledge.{TableId}
-use Rattle.air_sending.specs.declared.send.SendStop.{SendStop}
+use Rattle.journal_air.specs.declared.send.SendStop.{SendStop}
 use Rattle.desk_hall.specs.Turn.{View}
 use Rattle.headend_jobs.specs.declared.crew.Crew.{Crew}
 use Rattle.headend_jobs.specs.declared.jobs.FeedJob.{FeedJob}

@@ -5,17 +5,17 @@ use Rattle.si_time.specs.declared.moment.Moment.{Moment}
 use Rattle.si_causes.specs.Reading.{Reading}
 use Rattle.mux_model.specs.declared.mux.Mux.{Mux}
 use Rattle.cycle_player.specs.Sending.{Sending}
-use Rattle.timed_player.specs.Tally.{Tallied}
+use Rattle.cycle_player.specs.Tally.{Tallied}
 use Rattle.journal_model.specs.declared.step.Step.TheVariants.{Publish}
 use Rattle.journal_model.specs.declared.step.Outcome.TheVariants.{Published}
 use Rattle.journal_model.specs.declared.step.Entry.{Entry}
 use Rattle.journal_model.specs.Steps.{command_of}
 use Rattle.turn_lock.specs.declared.known.Caller.{Caller}
 use Rattle.turn_lock.specs.Knowledge.{TableId}
-use Rattle.air_sending.specs.declared.send.SendStop.{SendStop}
-use Rattle.air_sending.specs.declared.send.SendStop.TheVariants.{Air, Memory}
-use Rattle.air_sending.specs.AirOf.{AirDid}
-use Rattle.air_sending.specs.Tallied.{IsTallyOf}
+use Rattle.journal_air.specs.declared.send.SendStop.{SendStop}
+use Rattle.journal_air.specs.declared.send.SendStop.TheVariants.{Air, Memory}
+use Rattle.journal_air.specs.AirOf.{AirDid}
+use Rattle.journal_air.specs.Tallied.{IsTallyOf}
 use Rattle.desk_hall.specs.Turn.{View, Made, Idle}
 use Rattle.headend_jobs.specs.declared.jobs.FeedJob.{FeedJob}
 use Rattle.headend_jobs.specs.declared.jobs.ControlJob.{ControlJob}

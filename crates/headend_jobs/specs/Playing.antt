@@ -17,11 +17,11 @@ use Rattle.desk_core.specs.declared.airing.Airing.{Airing}
 use Rattle.journal_model.specs.declared.step.Entry.{Entry}
 use Rattle.journal_model.specs.Steps.{Command}
 use Rattle.desk_core.specs.Desks.{on_air_of}
-use Rattle.air_sending.specs.declared.send.SendStop.{SendStop}
-use Rattle.air_sending.specs.declared.send.SendStop.TheVariants.{Air, Memory}
+use Rattle.journal_air.specs.declared.send.SendStop.{SendStop}
+use Rattle.journal_air.specs.declared.send.SendStop.TheVariants.{Air, Memory}
 use Rattle.journal_air.specs.Air.{airings_by, mux_form}
-use Rattle.air_sending.specs.OnAir.{cycle_bytes, SentCycle, IsPlayerOf, airing_by}
-use Rattle.air_sending.specs.Tallied.{CountedCycle}
+use Rattle.journal_air.specs.OnAir.{cycle_bytes, SentCycle, IsPlayerOf, airing_by}
+use Rattle.journal_air.specs.Tallied.{CountedCycle}
 use Rattle.desk_hall.specs.Turn.{View, desk_with, Made, Idle, Did}
 use Rattle.headend_jobs.specs.Ticking.{Ticked, tick_by, ticks_for, turns_by}
 

@@ -5,7 +5,7 @@ use Rattle.mux_model.specs.declared.mux.Mux.{Mux}
 use Rattle.cycle_player.specs.Sending.{Sending}
 use Rattle.guide_board.specs.Posts.{Sight}
 use Rattle.turn_lock.specs.Knowledge.{TableId}
-use Rattle.air_sending.specs.OnAir.{HasAirCause}
+use Rattle.journal_air.specs.OnAir.{HasAirCause}
 use Rattle.headend_jobs.specs.declared.live.Ended.{Ended}
 use Rattle.headend_jobs.specs.declared.views.ViewJob.{ViewJob}
 use Rattle.headend_jobs.specs.Callers.{HaveTheirCommands}

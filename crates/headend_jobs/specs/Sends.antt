@@ -3,10 +3,10 @@ use Rattle.std.specs.Prelude.{◌≡◌, ◌≤◌, ℕ, List, [], ◌∷◌, Op
 use Rattle.air_model.specs.Air.{Aired}
 use Rattle.mux_model.specs.Sound.{IsSound}
 use Rattle.cycle_player.specs.Sending.{AtEnd}
-use Rattle.timed_player.specs.Tally.{no_cycles}
+use Rattle.cycle_player.specs.Tally.{no_cycles}
 use Rattle.turn_lock.specs.Knowledge.{TableId}
-use Rattle.air_sending.specs.declared.send.SendStop.{SendStop}
-use Rattle.air_sending.specs.OnAir.{HasAirCause, IsPlayerOf}
+use Rattle.journal_air.specs.declared.send.SendStop.{SendStop}
+use Rattle.journal_air.specs.OnAir.{HasAirCause, IsPlayerOf}
 use Rattle.desk_hall.specs.Turn.{View}
 use Rattle.headend_jobs.specs.declared.sender.Sender.{Sender}
 use Rattle.headend_jobs.specs.declared.sender.Swaps.{Swaps}

@@ -1,7 +1,7 @@
 -- Why a run stopped.
 use Rattle.std.specs.Prelude.{ℕ, ◌+◌, Bool, true, ◌||◌, is_some, List, [], ◌∷◌, Option, Some, None, Ok, Err, Result}
-use Rattle.air_sending.specs.declared.send.SendStop.{SendStop}
-use Rattle.air_sending.specs.declared.send.SendStop.TheVariants.{Air, Memory}
+use Rattle.journal_air.specs.declared.send.SendStop.{SendStop}
+use Rattle.journal_air.specs.declared.send.SendStop.TheVariants.{Air, Memory}
 use Rattle.input_lines.specs.declared.stop.EditStop.{EditStop}
 use Rattle.input_lines.specs.declared.stop.EditStop.TheVariants as edit
 use Rattle.headend_jobs.specs.declared.live.LiveStop.{LiveStop}

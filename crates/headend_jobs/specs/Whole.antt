@@ -7,7 +7,7 @@ use Rattle.journal_model.specs.declared.step.Entry.{Entry}
 use Rattle.desk_core.specs.Journal.{Legal}
 use Rattle.journal_model.specs.Steps.{Command}
 use Rattle.desk_core.specs.Publications.{swaps}
-use Rattle.air_sending.specs.OnAir.{is_swap}
+use Rattle.journal_air.specs.OnAir.{is_swap}
 use Rattle.turn_lock.specs.declared.known.Caller.{Caller}
 use Rattle.turn_lock.specs.Journal.{entries_of}
 use Rattle.turn_lock.specs.Knowledge.{NotLowest}

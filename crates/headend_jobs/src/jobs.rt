@@ -8,8 +8,8 @@ ghost use Rattle.headend_jobs.specs.Views.{ViewReady, ViewsDid};
 
 use crate::sender::{Sender, Swaps};
 use crate::views::{ViewJob, run_views};
-use air_sending::SendStop;
 use desk_hall::{Hall, HallPass};
+use journal_air::SendStop;
 use script_lines::EditStop;
 use si_causes::{Gate, LineReader, Sink, Source};
 use std::alloc::Global;

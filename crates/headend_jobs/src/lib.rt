@@ -20,7 +20,7 @@ mod live;
 mod sender;
 mod views;
 
-pub use air_sending::{SendStop, open_player, send_cycle, send_on_air};
+pub use journal_air::{SendStop, open_player, send_cycle, send_on_air};
 pub use live::{Ended, Inputs, LiveStop, and_stop, run_hall};
 pub use sender::Sender;
 pub use views::ViewJob;

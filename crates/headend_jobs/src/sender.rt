@@ -9,10 +9,10 @@ ghost use Rattle.headend_jobs.specs.Posting.{HasPosted, KeepsBoard};
 ghost use Rattle.headend_jobs.specs.Sends.{CanPlay, Played, Wrote};
 ghost use Rattle.headend_jobs.specs.Ticking.{Ticked, tick_now};
 
-use air_sending::{SendStop, send_cycle};
 use cycle_player::CyclePlayer;
 use desk_hall::{Hall, HallPass};
 use guide_board::BoardWriter;
+use journal_air::{SendStop, send_cycle};
 use mux_model::Mux;
 use si_causes::{Gate, Place, Sink};
 use si_time::Moment;

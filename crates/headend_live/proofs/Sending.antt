@@ -7,12 +7,12 @@ use Rattle.journal_model.specs.declared.step.Entry.{Entry}
 use Rattle.desk_core.specs.Journal.{Legal}
 use Rattle.journal_air.specs.Air.{airings, mux_form}
 use Rattle.journal_air.proofs.CarryFacts.{airings_heard}
-use Rattle.journal_screen.proofs.Shown.{sent_shown}
-use Rattle.air_sending.specs.declared.send.SendStop.{SendStop}
-use Rattle.air_sending.specs.AirOf.{AirDid}
-use Rattle.air_sending.proofs.Keys.{sent_keys}
-use Rattle.air_sending.proofs.Sent.{did_all, did_sent, rate_some, sent_coherent}
-use Rattle.air_sending.proofs.Spaced.{airings_fit, airings_timed, sent_spaced, sent_timed}
+use Rattle.journal_air.proofs.JournalScreenShown.{sent_shown}
+use Rattle.journal_air.specs.declared.send.SendStop.{SendStop}
+use Rattle.journal_air.specs.AirOf.{AirDid}
+use Rattle.journal_air.proofs.SendingKeys.{sent_keys}
+use Rattle.journal_air.proofs.Sent.{did_all, did_sent, rate_some, sent_coherent}
+use Rattle.journal_air.proofs.Spaced.{airings_fit, airings_timed, sent_spaced, sent_timed}
 use Rattle.headend_jobs.specs.declared.live.LiveStop.{LiveStop}
 use Rattle.headend_live.specs.SentLive.{SentLive}
 

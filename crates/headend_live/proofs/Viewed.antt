@@ -12,12 +12,12 @@ use Rattle.guide_board.specs.Posts.{Sight, serves, services_in}
 use Rattle.headend_jobs.specs.declared.live.LiveStop.{LiveStop}
 use Rattle.headend_jobs.specs.declared.live.LiveStop.TheVariants as live
 use Rattle.headend_jobs.specs.declared.views.ViewJob.{ViewJob}
-use Rattle.air_sending.specs.declared.send.SendStop.{SendStop}
-use Rattle.air_sending.specs.declared.send.SendStop.TheVariants.{Air, Memory}
+use Rattle.journal_air.specs.declared.send.SendStop.{SendStop}
+use Rattle.journal_air.specs.declared.send.SendStop.TheVariants.{Air, Memory}
 use Rattle.headend_jobs.specs.Live.{TallyDid}
 use Rattle.headend_jobs.specs.Stops.{after, and_stop, sent_stop}
-use Rattle.air_sending.specs.Tallied.{IsTallyOf}
-use Rattle.timed_player.specs.Tally.{Tallied}
+use Rattle.journal_air.specs.Tallied.{IsTallyOf}
+use Rattle.cycle_player.specs.Tally.{Tallied}
 use Rattle.headend_jobs.specs.Posting.{KeepsBoard, opening_of}
 use Rattle.headend_jobs.specs.Views.{AreSaid, ViewDid, ViewReady, Viewed, ViewsDid}
 use Rattle.headend_jobs.proofs.Posts.{opening_services}

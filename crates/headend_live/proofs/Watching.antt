@@ -12,7 +12,7 @@ use Rattle.journal_model.specs.declared.step.Entry.{Entry}
 use Rattle.guide_receiver.specs.Heard.{Hearing}
 use Rattle.guide_receiver.specs.Guides.{guide_of}
 use Rattle.guide_screen.specs.declared.need.Heard.{Heard}
-use Rattle.air_sending.specs.declared.send.SendStop.{SendStop}
+use Rattle.journal_air.specs.declared.send.SendStop.{SendStop}
 use Rattle.air_monitor.specs.declared.done_line.DoneLine.{DoneLine}
 use Rattle.air_monitor.specs.declared.monitor.MonitorLog.{MonitorLog}
 use Rattle.air_monitor.specs.Heard.{AreInSync, HasTaken, HearsBy, WasHeard, WatchedOn, Watching}
@@ -20,10 +20,10 @@ use Rattle.ts_packets.specs.WholePackets.{whole_packets}
 use Rattle.ts_packets.specs.Packets.{joined}
 use Rattle.air_monitor.proofs.Packets.{heard_front, told_taken, was_heard}
 use Rattle.ts_packets.proofs.WholePackets.{whole_packets-front}
-use Rattle.air_sending.specs.AirOf.{AirDid}
-use Rattle.air_sending.proofs.Sent.{did_sent}
+use Rattle.journal_air.specs.AirOf.{AirDid}
+use Rattle.journal_air.proofs.Sent.{did_sent}
 use Rattle.journal_air.specs.Air.{airings}
-use Rattle.air_coherence.proofs.Coherent.{packets_whole, packets_joined}
+use Rattle.air_laws.proofs.Coherent.{packets_whole, packets_joined}
 use Rattle.headend_jobs.specs.declared.live.Ended.{Ended}
 use Rattle.headend_jobs.specs.declared.live.LiveStop.{LiveStop}
 use Rattle.headend_jobs.specs.declared.live.LiveStop.TheVariants as live

@@ -4,14 +4,14 @@ use Rattle.mux_model.specs.declared.mux.Mux.{Mux}
 use Rattle.mux_model.specs.Sound.{IsSoundWithIds}
 use Rattle.journal_model.specs.declared.step.Entry.{Entry}
 use Rattle.carousel_player.specs.Spacing.{IsSpacedAir}
-use Rattle.timed_player.specs.Playing.{IsTimedAir}
-use Rattle.air_coherence.specs.Coherence.{IsCoherent}
+use Rattle.cycle_player.specs.Playing.{IsTimedAir}
+use Rattle.air_laws.specs.Coherence.{IsCoherent}
 use Rattle.cycle_player.specs.Sent.{IsSentWhole, SentOf}
 use Rattle.journal_air.specs.Air.{airings}
 use Rattle.journal_air.specs.Laws.{HasTypedEdits}
-use Rattle.journal_screen.specs.Shown.{IsAsRead, IsExact}
-use Rattle.air_sending.specs.HeardKeys.{HaveFewKeys}
-use Rattle.air_sending.specs.SentAir.{OfEachAir}
+use Rattle.journal_air.specs.JournalScreenShown.{IsAsRead, IsExact}
+use Rattle.journal_air.specs.HeardKeys.{HaveFewKeys}
+use Rattle.journal_air.specs.SentAir.{OfEachAir}
 use Rattle.headend_jobs.specs.declared.live.LiveStop.{LiveStop}
 
 -- What a run with this journal and this stop sent, from before to now. The premises on multiplex and journal hold of each desk, by the types

@@ -13,9 +13,9 @@ use Rattle.air_monitor.specs.declared.monitor.MonitorLog.{MonitorLog}
 use Rattle.air_monitor.specs.Heard.{HearsBy, lines_of_air}
 use Rattle.ts_packets.specs.WholePackets.{whole_packets}
 use Rattle.cycle_player.specs.Sending.{AtEnd}
-use Rattle.timed_player.specs.Tally.{no_cycles}
-use Rattle.air_sending.specs.OnAir.{IsPlayerOf}
-use Rattle.air_sending.specs.Tallied.{IsTallyOf}
+use Rattle.cycle_player.specs.Tally.{no_cycles}
+use Rattle.journal_air.specs.OnAir.{IsPlayerOf}
+use Rattle.journal_air.specs.Tallied.{IsTallyOf}
 use Rattle.headend_jobs.specs.declared.live.Ended.{Ended}
 use Rattle.headend_jobs.specs.declared.live.LiveStop.{LiveStop}
 use Rattle.headend_jobs.specs.declared.live.LiveStop.TheVariants as live

@@ -1,7 +1,7 @@
 // What multiplexes and journals have by the types of their values.
 ghost use Rattle.std.specs.Prelude.{◌≤◌, IfSome};
 ghost use Rattle.std.specs.List.{AllByRecursion};
-ghost use Rattle.si_text.specs.Decoding.{IsKept};
+ghost use Rattle.guide_model.specs.Decoding.{IsKept};
 ghost use Rattle.mux_model.specs.declared.mux.MuxService.{MuxService as OwnService};
 ghost use Rattle.mux_model.specs.declared.mux.RemoteService.{RemoteService as Remote};
 ghost use Rattle.mux_model.specs.declared.mux.Other.{Other as OtherStream};
@@ -11,13 +11,12 @@ ghost use Rattle.journal_model.specs.declared.step.Entry.{Entry as AnEntry};
 ghost use Rattle.journal_model.specs.Edits.{HasGenreNumbers, IsTypedEdit, IsTypedItem};
 ghost use Rattle.journal_model.specs.Steps.{IsTypedStep};
 ghost use Rattle.journal_air.specs.Laws.{HasTypedEdits};
-ghost use Rattle.journal_screen.specs.Shown.{IsAsRead};
+ghost use Rattle.journal_air.specs.JournalScreenShown.{IsAsRead};
 
 use desk_core::Desk;
-use guide_model::Genre;
+use guide_model::{Genre, Txt};
 use journal_model::{Edit, Entry, Item, RawRating, Step};
 use mux_model::{Mux, MuxService, Other, RemoteService};
-use si_text::Txt;
 
 fn is_byte(number: u8)
     ensures { number ≤ 255 }

@@ -11,8 +11,8 @@ use Rattle.csv.specs.Reading.{default_config, strip_bom, is_bom}
 use Rattle.csv.specs.Records.{field_at}
 use Rattle.csv.specs.declared.parser.State.TheVariants as st
 use Rattle.std.specs.List.{AllByRecursion}
-use Rattle.si_text.specs.Control.{is_control, has_control}
-use Rattle.si_text.specs.Decoding.{IsKept}
+use Rattle.guide_model.specs.Control.{is_control, has_control}
+use Rattle.guide_model.specs.Decoding.{IsKept}
 use Rattle.input_lines.specs.Fields.{IsLine, is_line, line_fields, fields_or_none, record_of}
 use Rattle.input_lines.proofs.CleanText.{is_plain_char, IsClean, AllClean, RecordClean}
 use Rattle.input_lines.proofs.Clean.{reads-clean}

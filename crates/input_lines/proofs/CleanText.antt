@@ -3,7 +3,7 @@ use Rattle.std.specs.Prelude.{◌≡◌, ℕ, Bool, true, not, ◌&&◌, List, [
 use Rattle.std.specs.List.{list_all}
 use Rattle.std.specs.Str.{encode_utf8_all}
 use Rattle.csv.specs.Machine.{Read}
-use Rattle.si_text.specs.Control.{is_control}
+use Rattle.guide_model.specs.Control.{is_control}
 use lib.Utf8.{scalar}
 
 abbrev pub is_plain_char : ℕ → Bool

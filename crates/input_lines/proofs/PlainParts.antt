@@ -2,7 +2,7 @@
 use Rattle.std.proofs.Common.{◌≡◌, ◌==◌, ◌∷◌, [], ℕ, suc, zero, ◌<◌, length, List, refl, true, inl, inr, get_or, arith}
 use Rattle.std.specs.List.{AllByRecursion, onto_first}
 use Rattle.std.proofs.lemmas.Bool.{cases_Bool, and_parts}
-use Rattle.si_text.specs.Coding.{is_plain, all_plain}
+use Rattle.guide_model.specs.Coding.{is_plain, all_plain}
 use Rattle.input_lines.specs.Fields.{comma_parts, IsPlain}
 
 plain_first : (b : ℕ) (ps : List (List ℕ)) → is_plain b ≡ true → AllByRecursion IsPlain ps → AllByRecursion IsPlain (onto_first b ps)

@@ -10,7 +10,7 @@ use Rattle.csv.specs.Reading.{default_config, strip_bom}
 use Rattle.csv.specs.declared.parser.State.TheVariants as st
 use Rattle.csv.proofs.RoundTrip.{start-same, record-same}
 use Rattle.memchr.specs.Find.{IsFirstByte, is_byte}
-use Rattle.si_text.specs.Decoding.{IsKept}
+use Rattle.guide_model.specs.Decoding.{IsKept}
 use Rattle.input_lines.specs.Fields.{comma_parts, has_quote, is_bare, line_fields, fields_or_none}
 use Rattle.input_lines.proofs.CleanLines.{clean_from}
 use Rattle.input_lines.proofs.CleanBytes.{is_inner, inner_parts, clean_inner}

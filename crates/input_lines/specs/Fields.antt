@@ -7,9 +7,9 @@ unfoldable pub use Rattle.csv.specs.Machine.{next_record}
 use Rattle.csv.specs.Reading.{default_config}
 unfoldable pub use Rattle.csv.specs.Reading.{strip_bom}
 use Rattle.csv.specs.declared.parser.State.TheVariants.{StartRecord}
-use Rattle.si_text.specs.Coding.{all_plain}
-use Rattle.si_text.specs.Control.{has_control}
-use Rattle.si_text.specs.Decoding.{IsKept}
+use Rattle.guide_model.specs.Coding.{all_plain}
+use Rattle.guide_model.specs.Control.{has_control}
+use Rattle.guide_model.specs.Decoding.{IsKept}
 
 abbrev pub fields_or_none : Option Read → List (List ℕ)
 fields_or_none None = []

@@ -2,15 +2,15 @@
 ghost use Rattle.std.specs.Prelude.{◌≡◌, true, false, IfOk, IfSome, IfNone};
 ghost use Rattle.std.specs.List.{AllByRecursion};
 ghost use Rattle.csv.specs.Records.{fields_of};
-ghost use Rattle.si_text.specs.Coding.{all_plain};
-ghost use Rattle.si_text.specs.Control.{has_control};
-ghost use Rattle.si_text.specs.Decoding.{IsKept};
+ghost use Rattle.guide_model.specs.Coding.{all_plain};
+ghost use Rattle.guide_model.specs.Control.{has_control};
+ghost use Rattle.guide_model.specs.Decoding.{IsKept};
 ghost use Rattle.input_lines.specs.Fields.{IsLine, IsPlain, comma_parts, has_quote, is_bare, line_fields, record_of};
 
 use csv::{ReaderBuilder, StringRecord};
+use guide_model::{Txt, has_control, is_all_plain};
 use memchr::{memchr, memchr_iter};
 use si_base::Items;
-use si_text::{Txt, has_control, is_all_plain};
 use std::alloc::{AllocError, Global};
 
 /// The most bytes that a line may have.

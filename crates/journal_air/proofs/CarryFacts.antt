@@ -17,17 +17,17 @@ use Rattle.section_codec.specs.Keys.{key_in}
 use Rattle.section_codec.specs.SubTables.{header_of}
 use Rattle.section_codec.specs.Tables.{is_eit, is_pat, is_pmt, is_nit, is_sdt, is_events}
 use Rattle.section_codec.specs.declared.table.Naming.TheVariants.{Extension, Network, Stream}
-use Rattle.pat_pmt.specs.Pat.{is_pat_body}
-use Rattle.pat_pmt.specs.Pmt.{is_pmt_body}
-use Rattle.nit_sdt.specs.Nit.{is_nit_body}
-use Rattle.nit_sdt.specs.Sdt.{is_sdt_body}
-use Rattle.eit_codec.specs.Eit.{is_eit_body}
-use Rattle.eit_tables.proofs.EntryFacts.{typed_small}
+use Rattle.table_bodies.specs.Pat.{is_pat_body}
+use Rattle.table_bodies.specs.Pmt.{is_pmt_body}
+use Rattle.table_bodies.specs.Nit.{is_nit_body}
+use Rattle.table_bodies.specs.Sdt.{is_sdt_body}
+use Rattle.table_bodies.specs.Eit.{is_eit_body}
+use Rattle.publication.proofs.EntryFacts.{typed_small}
 use Rattle.time_tables.specs.LocalOffsets.{FitsOffset}
 use Rattle.version_book.specs.Airings.{AiredTables}
-use Rattle.heard_completions.specs.Counting.{is_body_of_table, is_event_body, is_last_within}
+use Rattle.guide_receiver.specs.Counting.{is_body_of_table, is_event_body, is_last_within}
 use Rattle.air_model.specs.Air.{CanBeTold}
-use Rattle.air_hearing.specs.Counting.{IsReadable, CanBeHeard}
+use Rattle.air_laws.specs.Counting.{IsReadable, CanBeHeard}
 use Rattle.publication.specs.Laws.{IsReadEit, TellsItself, TellsKey}
 use Rattle.publication.specs.Tables.{tables_of}
 use Rattle.publication.proofs.FitFacts.{publication_fit}

@@ -21,10 +21,10 @@ use Rattle.section_codec.specs.declared.table.Key.{Key}
 use Rattle.section_codec.specs.declared.table.SubTable.{SubTable}
 use Rattle.section_codec.specs.KeyOrder.{is_key}
 use Rattle.section_codec.proofs.KeyOrderFacts.{is_key-itself}
-use Rattle.eit_tables.specs.Eit.{bearer_key, eit_key}
+use Rattle.publication.specs.Eit.{bearer_key, eit_key}
 use Rattle.sub_collect.proofs.KeyCounts.{key_laws}
 use Rattle.version_book.specs.Airings.{AiredTables}
-use Rattle.air_hearing.specs.Sending.{carried_keys}
+use Rattle.air_laws.specs.Sending.{carried_keys}
 use Rattle.publication.specs.Tables.{sdt_key, other_sdt_key, bearer_of, tables_of}
 use Rattle.publication.specs.Programs.{pat_key, pmt_key}
 use Rattle.publication.specs.Network.{nit_key}

@@ -6,8 +6,8 @@ use Rattle.mux_model.specs.declared.mux.Mux.{Mux}
 use Rattle.journal_model.specs.declared.edit.Edit.{Edit}
 use Rattle.journal_model.specs.Edits.{IsTypedEdit}
 use Rattle.guide_limits.specs.Limits.{IsGuideWithin}
-use Rattle.eit_tables.specs.Laws.{HasTypedEvents}
-use Rattle.eit_tables.proofs.TypedFacts.{typed_left}
+use Rattle.publication.specs.EitLaws.{HasTypedEvents}
+use Rattle.publication.proofs.TypedFacts.{typed_left}
 use Rattle.publication.specs.Tables.{HasServicesOf}
 use Rattle.publication.proofs.TableFacts.{guides_have}
 use Rattle.journal_model.specs.declared.step.Entry.{Entry}

@@ -11,8 +11,8 @@ use Rattle.journal_model.specs.Edits.{IsTypedEdit}
 use Rattle.journal_model.specs.declared.step.Entry.{Entry}
 use Rattle.desk_core.specs.Journal.{accepted, Legal}
 use Rattle.section_codec.specs.Tables.{is_counted}
-use Rattle.air_hearing.specs.Counting.{CanBeHeard}
-use Rattle.air_hearing.specs.Sending.{carried_keys}
+use Rattle.air_laws.specs.Counting.{CanBeHeard}
+use Rattle.air_laws.specs.Sending.{carried_keys}
 use Rattle.journal_air.specs.Air.{airings}
 
 -- The accepted edits of a journal have numbers as wide as their fields, and texts that may be kept, as all edits that are read.

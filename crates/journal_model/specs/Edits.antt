@@ -1,7 +1,7 @@
 -- Edits as lines give them: the shapes of their texts, the width of their numbers, and the size of a day.
 use Rattle.std.specs.Prelude.{◌≡◌, ◌≢◌, ◌≤◌, true, List, [], length, IfSome, codes}
 use Rattle.std.specs.List.{All, AllByRecursion}
-use Rattle.si_text.specs.Decoding.{IsKept}
+use Rattle.guide_model.specs.Decoding.{IsKept}
 use Rattle.si_time.specs.Readings.{has_shape}
 use Rattle.guide_model.specs.declared.event.Genre.{Genre}
 use Rattle.journal_model.specs.declared.edit.DayText.{DayText}

@@ -1,7 +1,6 @@
 // What a feed asks for.
-use guide_model::Genres;
+use guide_model::{Genres, Txt};
 use si_base::Items;
-use si_text::Txt;
 
 /// A start_time as it is given (EN 300 468, 5.2.4): the text `YYYY-MM-DDThh:mm:ssZ`. Any bytes are a stamp;
 /// `si_time::read_moment` reads those that are a moment.

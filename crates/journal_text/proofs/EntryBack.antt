@@ -26,16 +26,16 @@ use Rattle.journal_model.specs.declared.step.Entry.{Entry}
 use Rattle.script_lines.specs.Controls.{control_of}
 use Rattle.journal_model.specs.Steps.{IsStepWithin, IsTypedStep}
 use Rattle.script_lines.specs.declared.script.ScriptItem.TheVariants.{Step as step, Kept}
-use Rattle.command_text.specs.Lines.{line_text, item_text, item_row, items_of}
-use Rattle.command_text.specs.Commands.{step_fields, step_items}
+use Rattle.journal_text.specs.Lines.{line_text, item_text, item_row, items_of}
+use Rattle.journal_text.specs.Commands.{step_fields, step_items}
 use Rattle.journal_text.specs.Entries.{entry_text}
 use Rattle.script_lines.specs.Script.{feed_of, feed_command, short_step, command_with, command_of_caller, command_by, read_command, kept_in, kept_item, step_item, read_item, item_on, first_script_item, IsShapedStep}
-use Rattle.command_text.specs.Back.{IsNumeralNumber, IsRow, IsShort, command_row, row_line, shown_lines, ahead_of, command_lines}
+use Rattle.journal_text.specs.CommandBack.{IsNumeralNumber, IsRow, IsShort, command_row, row_line, shown_lines, ahead_of, command_lines}
 use Rattle.journal_text.specs.Back.{outcome_row, IsReadableOutcome, IsWritableOutcome, EntriesReadBack}
-use Rattle.command_text.proofs.CommandBack.{AreRows, behind_rows, command_back, command_is_row, first_reads, items_first, lines_from, numbered, row_fields, row_first, step_reads, step_rows}
+use Rattle.journal_text.proofs.CommandBack.{AreRows, behind_rows, command_back, command_is_row, first_reads, items_first, lines_from, numbered, row_fields, row_first, step_reads, step_rows}
 use Rattle.script_lines.proofs.NumberBack.{number_back, numeral_back, moment_back, digits_of, low}
 use Rattle.journal_text.proofs.EntryRows.{outcome_reads, outcome_front, outcome_row_kept, outcome_line, readable_written}
-use Rattle.command_text.proofs.CommandFields.{item_row_kept, command_kept, command_front}
+use Rattle.journal_text.proofs.CommandFields.{item_row_kept, command_kept, command_front}
 
 -- ---- an entry
 

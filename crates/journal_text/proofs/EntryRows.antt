@@ -8,7 +8,7 @@ use Rattle.std.proofs.lemmas.Bool.Decides.{nat_tests}
 use Rattle.csv.specs.Writing.{default_writer, field_text, fields_text, needs_byte}
 use Rattle.si_time.specs.Readings.{has_shape}
 use Rattle.si_time.specs.Moments.{moment_text}
-use Rattle.si_text.specs.Decoding.{IsKept}
+use Rattle.guide_model.specs.Decoding.{IsKept}
 use Rattle.input_lines.specs.Numbers.{is_digit, numeral_of}
 use Rattle.input_lines.proofs.CleanText.{is_plain_char, IsClean}
 use Rattle.input_lines.proofs.CleanLines.{kept_from}
@@ -20,18 +20,18 @@ use Rattle.journal_model.specs.declared.reply.DayFault.TheVariants.{Range as Bad
 use Rattle.journal_model.specs.declared.reply.Reply.TheVariants.{Done, Foreign, Range, Overlap, Member}
 use Rattle.journal_model.specs.declared.step.Outcome.{Outcome}
 use Rattle.journal_model.specs.declared.step.Outcome.TheVariants.{Edited, Ticked, Late, Published, Swapped}
-use Rattle.command_text.specs.Lines.{line_text}
+use Rattle.journal_text.specs.Lines.{line_text}
 use Rattle.script_lines.specs.Outcomes.{field_fields, field_numbers, fault_ids, fault_numbers, day_fault_fields, id_in, outcome_fields, outcome_ids, outcome_numbers, outcome_of_fields}
 use Rattle.journal_text.specs.Entries.{outcome_text, with_commas}
-use Rattle.command_text.specs.Back.{IsFronted, row_line}
+use Rattle.journal_text.specs.CommandBack.{IsFronted, row_line}
 use Rattle.journal_text.specs.Back.{IsReadableOutcome, IsWritableOutcome, OutcomesReadBack, outcome_row}
 use Rattle.script_lines.proofs.NumberBack.{digits_of, low, small, number_back, numeral_back}
 use Rattle.script_lines.proofs.OutcomeBack.{outcome_back}
 use Rattle.si_lists.proofs.Lists.{all_map}
 use Rattle.si_lists.proofs.Filters.{list_all-more}
-use Rattle.si_text.specs.Control.{is_printing}
-use Rattle.command_text.proofs.CleanRows.{clean_append, clean_none, clean_byte}
-use Rattle.command_text.proofs.PlainFields.{all_written, is_written, moment_written, number_written, plain_field, written_kept}
+use Rattle.guide_model.specs.Control.{is_printing}
+use Rattle.journal_text.proofs.CleanRows.{clean_append, clean_none, clean_byte}
+use Rattle.journal_text.proofs.PlainFields.{all_written, is_written, moment_written, number_written, plain_field, written_kept}
 
 -- ---- the line of an outcome
 

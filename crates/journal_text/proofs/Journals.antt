@@ -10,7 +10,7 @@ use Rattle.si_lists.proofs.Outcomes.{some_same}
 use Rattle.si_lists.proofs.Truths.{first_true}
 use Rattle.csv.specs.Writing.{default_writer, fields_text}
 use Rattle.si_causes.specs.Lines.{raw_lines}
-use Rattle.si_text.specs.Decoding.{IsKept}
+use Rattle.guide_model.specs.Decoding.{IsKept}
 use Rattle.input_lines.specs.Fields.{line_fields}
 use Rattle.input_lines.specs.Numbers.{is_digit, value_from}
 use Rattle.journal_model.specs.declared.edit.Item.{Item}
@@ -30,20 +30,20 @@ use Rattle.journal_model.specs.declared.step.Step.TheVariants.{Edit as edit, Tic
 use Rattle.journal_model.specs.declared.step.Outcome.{Outcome}
 use Rattle.journal_model.specs.declared.step.Entry.{Entry}
 use Rattle.journal_model.specs.Steps.{IsStepWithin, IsTypedStep}
-use Rattle.command_text.specs.Lines.{line_text, item_text, item_row, items_of}
-use Rattle.command_text.specs.Commands.{step_fields, step_items}
+use Rattle.journal_text.specs.Lines.{line_text, item_text, item_row, items_of}
+use Rattle.journal_text.specs.Commands.{step_fields, step_items}
 use Rattle.journal_text.specs.Entries.{entry_text, journal_text}
 use Rattle.script_lines.specs.Outcomes.{Numeral, outcome_by, outcome_fields}
 use Rattle.script_lines.specs.Script.{short_step, feed_of, IsShapedStep}
-use Rattle.command_text.specs.Back.{IsFronted, command_row, row_line}
+use Rattle.journal_text.specs.CommandBack.{IsFronted, command_row, row_line}
 use Rattle.journal_text.specs.Back.{IsWritableOutcome, IsOfLines, outcome_row, BeginsNoEntry, JournalsDiffer, JournalsEnd}
 use Rattle.input_lines.proofs.CleanBytes.{clean_inner}
-use Rattle.command_text.proofs.CleanRows.{row_clean, all_clean, line_first}
-use Rattle.command_text.proofs.RowBack.{fields_back}
+use Rattle.journal_text.proofs.CleanRows.{row_clean, all_clean, line_first}
+use Rattle.journal_text.proofs.RowBack.{fields_back}
 use Rattle.journal_text.proofs.EntryRows.{IsWide, outcome_front, outcome_row_kept}
-use Rattle.command_text.proofs.PlainFields.{plain_field, number_written}
-use Rattle.command_text.proofs.CommandFields.{item_row_kept, command_kept, command_front}
-use Rattle.command_text.proofs.CommandBack.{feed_short, tick_short, publish_short, swap_short}
+use Rattle.journal_text.proofs.PlainFields.{plain_field, number_written}
+use Rattle.journal_text.proofs.CommandFields.{item_row_kept, command_kept, command_front}
+use Rattle.journal_text.proofs.CommandBack.{feed_short, tick_short, publish_short, swap_short}
 use Rattle.journal_text.proofs.EntryBack.{entry_parts}
 
 -- ---- the rows of a text

@@ -3,7 +3,7 @@ use Rattle.std.specs.Prelude.{ℕ, ◌++◌, List, [], ◌∷◌, codes, flat_ma
 use Rattle.script_lines.specs.Outcomes.{outcome_fields}
 use Rattle.journal_model.specs.declared.step.Entry.{Entry}
 use Rattle.journal_model.specs.declared.step.Outcome.{Outcome}
-use Rattle.command_text.specs.Commands.{command_text}
+use Rattle.journal_text.specs.Commands.{command_text}
 
 -- fields with commas (44) between
 abbrev pub with_commas : List (List ℕ) → List ℕ

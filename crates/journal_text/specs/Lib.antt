@@ -1,3 +1,6 @@
+pub mod Lines
+pub mod Commands
+pub mod CommandBack
 pub mod Entries
 pub mod Back
 mod Rows

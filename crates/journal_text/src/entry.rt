@@ -5,7 +5,7 @@ ghost use Rattle.journal_text.specs.Back.{HasWideNumbers, IsWritten};
 ghost use Rattle.journal_text.specs.Entries.{outcome_text, entry_text};
 
 use crate::outcome::put_outcome;
-use command_text::write_command;
+use crate::write_command;
 use journal_model::{Entry, Outcome};
 use std::alloc::{AllocError, Global};
 

@@ -5,8 +5,8 @@ use Rattle.std.specs.List.{AllByRecursion}
 use Rattle.std.proofs.lemmas.Bool.Decides.{nat_tests}
 use Rattle.si_lists.proofs.Outcomes.{none_of}
 use Rattle.si_lists.proofs.Truths.{first_true, second_true}
-use Rattle.si_text.specs.Coding.{coded_size}
-use Rattle.si_text.specs.Decoding.{IsKept}
+use Rattle.guide_model.specs.Coding.{coded_size}
+use Rattle.guide_model.specs.Decoding.{IsKept}
 use Rattle.si_time.specs.Readings.{moment_in}
 use Rattle.si_time.proofs.TextFacts.{moment_in-is}
 use Rattle.input_lines.specs.Ahead.{Ahead, Came, Found, Row, Tail}

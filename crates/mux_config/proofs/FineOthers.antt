@@ -8,7 +8,7 @@ use Rattle.std.proofs.lemmas.List.{length-map}
 use Rattle.si_lists.proofs.Lists.{all_flat, all_map, all_push, all_through, all_to_map, all_two}
 use Rattle.si_lists.proofs.Truths.{first_true, second_true}
 use Rattle.guide_model.specs.declared.stream.Cable.{Cable}
-use Rattle.si_text.specs.Decoding.{IsKept}
+use Rattle.guide_model.specs.Decoding.{IsKept}
 use Rattle.mux_model.specs.declared.mux.MuxService.{MuxService}
 use Rattle.mux_model.specs.declared.mux.RemoteService.{RemoteService}
 use Rattle.mux_model.specs.declared.mux.Other.{Other}

@@ -2,8 +2,8 @@
 use Rattle.std.specs.Prelude.{◌≡◌, ◌≢◌, ℕ, ◌*◌, ◌<◌, ◌≤◌, false, List, [], length, map, Option, Some, None}
 use Rattle.std.specs.List.{AllByRecursion}
 use Rattle.guide_model.specs.declared.stream.Component.{Component}
-use Rattle.si_text.specs.Coding.{coded_size}
-use Rattle.si_text.specs.Decoding.{IsKept}
+use Rattle.guide_model.specs.Coding.{coded_size}
+use Rattle.guide_model.specs.Decoding.{IsKept}
 use Rattle.si_time.specs.declared.moment.Moment.{Moment}
 use Rattle.mux_model.specs.declared.mux.MuxService.{MuxService}
 use Rattle.mux_model.specs.declared.mux.RemoteService.{RemoteService}

@@ -11,7 +11,7 @@ use Rattle.mux_config.specs.declared.record.Record.{Record}
 use Rattle.mux_config.specs.declared.record.Record.TheVariants.{Network, Stream, Delivery, Service, Part, Start, Quota, Rate, Local, Elsewhere, Remote, End}
 use Rattle.mux_config.specs.declared.record.RecordFound.{RecordFound}
 use Rattle.mux_config.specs.declared.record.RecordFound.TheVariants.{NoRecord, OutOfRange, Is}
-use Rattle.si_text.specs.Coding.{coded_size}
+use Rattle.guide_model.specs.Coding.{coded_size}
 use Rattle.si_time.specs.Readings.{moment_in}
 
 -- a field that is spelled as a number, and what is found with it

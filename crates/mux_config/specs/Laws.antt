@@ -1,7 +1,7 @@
 -- What holds of every description that is whole, by the definitions alone.
 use Rattle.std.specs.Prelude.{◌≡◌, Ok}
 use Rattle.std.specs.List.{AllByRecursion}
-use Rattle.si_text.specs.Decoding.{IsKept}
+use Rattle.guide_model.specs.Decoding.{IsKept}
 use Rattle.input_lines.specs.Ahead.{Ahead, Came}
 use Rattle.mux_model.specs.declared.mux.MuxService.{MuxService}
 use Rattle.mux_model.specs.declared.mux.RemoteService.{RemoteService}

@@ -1,7 +1,6 @@
 // The records of a description.
-use guide_model::{Cable, Component, Offset};
+use guide_model::{Cable, Component, Offset, Txt};
 use mux_model::{MuxService, RemoteService};
-use si_text::Txt;
 use si_time::Moment;
 
 /// What a line of the description says: the network's id and name; the stream's id and its original network; the cable

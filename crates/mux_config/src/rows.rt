@@ -1,15 +1,14 @@
 // What the fields of a line say.
 ghost use Rattle.std.specs.Prelude.{◌≡◌, ◌<◌, ◌∷◌, [], true, false, IfOk, IfSome, IfNone, Some, option_map};
-ghost use Rattle.si_text.specs.Coding.{coded_size};
+ghost use Rattle.guide_model.specs.Coding.{coded_size};
 ghost use Rattle.input_lines.specs.Numbers.{in_range};
 ghost use Rattle.mux_model.specs.Sound.{Between, farthest};
 ghost use Rattle.mux_config.specs.Fields.{network_in, stream_in, cable_in, delivery_with, are_ids, other_in, other_by, cabled_in, remote_with, remote_by, remote_in, eight_in, three_in, numbers_in, service_with, service_of as numbers_service, bare_service, is_letter as is_small_letter, is_language as is_a_language, language_of, part_in, is_capital, country_of, side_of, offset_with, offset_in, start_in, quota_in, rate_in, found_in};
 
 use crate::record::{Record, RecordFound};
-use guide_model::{Cable, Component, Components, Offset};
+use guide_model::{Cable, Component, Components, Offset, Txt, coded_len};
 use input_lines::{is_word, numeral};
 use mux_model::{MuxService, RemoteService};
-use si_text::{Txt, coded_len};
 use si_time::{Moment, read_moment};
 use std::alloc::{AllocError, Global};
 

@@ -15,10 +15,9 @@ use crate::fault::{MuxFault, Word};
 use crate::kinds::{Kind, first_of};
 use crate::record::{Numbered, Record};
 use crate::stop::MuxStop;
-use guide_model::{Cable, Component, Components, Offset, Offsets};
+use guide_model::{Cable, Component, Components, Offset, Offsets, Txt};
 use mux_model::{Mux, MuxService, MuxServices, Other, Others, RemoteService, RemoteServices};
 use si_base::{Copies, Items};
-use si_text::Txt;
 use si_time::Moment;
 use std::alloc::{AllocError, Global};
 

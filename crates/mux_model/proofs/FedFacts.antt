@@ -7,7 +7,7 @@ use Rattle.std.proofs.lemmas.Bool.Decides.{nat_tests}
 use Rattle.std.proofs.lemmas.Grind.{flat_map-append}
 use Rattle.std.proofs.lemmas.List.{append-nil, take-append-drop, take_all, take_more}
 use Rattle.si_lists.proofs.Lists.{all_behind, all_front, all_flat, all_map, all_of_map, all_through, all_to_map, all_two, each_unit}
-use Rattle.si_text.specs.Decoding.{IsKept}
+use Rattle.guide_model.specs.Decoding.{IsKept}
 use Rattle.mux_model.specs.declared.mux.MuxService.{MuxService}
 use Rattle.mux_model.specs.declared.mux.RemoteService.{RemoteService}
 use Rattle.mux_model.specs.declared.mux.Other.{Other}

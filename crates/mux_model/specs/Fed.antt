@@ -1,8 +1,8 @@
 -- What feeds edit of a service, of whatever stream: the feed that owns it, and its first names.
 use Rattle.std.specs.Prelude.{ℕ, ◌<◌, ◌≤◌, ◌==◌, nat_lt, Bool, List, [], ◌∷◌, find, map, option_map, unwrap_or}
 use Rattle.std.specs.List.{AllByRecursion}
-use Rattle.si_text.specs.Coding.{coded_size}
-use Rattle.si_text.specs.Decoding.{IsKept}
+use Rattle.guide_model.specs.Coding.{coded_size}
+use Rattle.guide_model.specs.Decoding.{IsKept}
 use Rattle.mux_model.specs.declared.mux.MuxService.{MuxService}
 use Rattle.mux_model.specs.declared.mux.RemoteService.{RemoteService}
 use Rattle.mux_model.specs.declared.mux.Mux.{Mux}

@@ -1,9 +1,8 @@
 // A multiplex, its services and the other streams of its network.
 ghost use Rattle.std.specs.Prelude.{◌≡◌, IfOk};
 
-use guide_model::{Cable, Components, Offsets};
+use guide_model::{Cable, Components, Offsets, Txt};
 use si_base::{Copies, Items};
-use si_text::Txt;
 use si_time::Moment;
 use std::alloc::AllocError;
 

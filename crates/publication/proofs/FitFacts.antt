@@ -16,8 +16,8 @@ use Rattle.mux_model.specs.Order.{DoCome}
 use Rattle.mux_model.specs.Sound.{IsSound, IsSoundService, DoAscend, AreDifferent, comes_before}
 use Rattle.guide_limits.specs.Events.{midnight, block_of}
 use Rattle.guide_limits.specs.Limits.{IsServiceWithin, AreWithin, IsGuideWithin}
-use Rattle.longest_runs.specs.Runs.{longest_runs}
-use Rattle.longest_runs.proofs.RunFacts.{runs_some, runs_fit}
+use Rattle.si_lists.specs.Runs.{longest_runs}
+use Rattle.si_lists.proofs.RunFacts.{runs_some, runs_fit}
 use Rattle.section_codec.specs.declared.table.Key.{Key}
 use Rattle.section_codec.specs.declared.table.NumberedBody.{NumberedBody}
 use Rattle.section_codec.specs.declared.table.SubTable.{SubTable}
@@ -30,13 +30,13 @@ use Rattle.eit_segments.specs.Schedule.{CanBePlaced, last_used}
 use Rattle.eit_segments.proofs.Few.{events_can_be_placed}
 use Rattle.eit_segments.proofs.Order.{used_less}
 use Rattle.eit_segments.specs.Laws.{at_of}
-use Rattle.eit_tables.specs.Eit.{Bearer, own, bearer_key}
-use Rattle.eit_tables.specs.Present.{present_of, present_table}
-use Rattle.eit_tables.specs.Schedule.{last_table_of, schedule_of, schedule_table, near_tables, far_tables, remote_tables}
-use Rattle.eit_tables.specs.Laws.{AreSmallEntries, AreEit}
-use Rattle.eit_tables.proofs.EitFacts.{present_fit, placed_fit}
-use Rattle.desc_service.specs.declared.service_list.ServiceKind.{ServiceKind}
-use Rattle.nit_sdt.specs.declared.sdt.SdtService.{SdtService}
+use Rattle.publication.specs.Eit.{Bearer, own, bearer_key}
+use Rattle.publication.specs.Present.{present_of, present_table}
+use Rattle.publication.specs.Schedule.{last_table_of, schedule_of, schedule_table, near_tables, far_tables, remote_tables}
+use Rattle.publication.specs.EitLaws.{AreSmallEntries, AreEit}
+use Rattle.publication.proofs.EitFacts.{present_fit, placed_fit}
+use Rattle.descriptors.specs.declared.service_list.ServiceKind.{ServiceKind}
+use Rattle.table_bodies.specs.declared.sdt.SdtService.{SdtService}
 use Rattle.publication.specs.Sections.{single_table}
 use Rattle.publication.specs.Programs.{pat_of, pat_key, pat_table, pmt_of, pmt_key, pmt_table, pmt_tables}
 use Rattle.publication.specs.Network.{own_kinds, remote_kinds, nit_of, nit_key, nit_table}
@@ -44,9 +44,9 @@ use Rattle.publication.specs.Parts.{own_guide, remote_guide}
 use Rattle.publication.specs.Sdt.{sdt_services, sdt_sections, service_size, section_body, numbered}
 use Rattle.publication.specs.Tables.{sdt_key, sdt_table, present_tables, all_near_tables, all_far_tables, other_sdt_key, other_sdt_table, other_sdt_tables, bearer_of, remote_presents, remote_schedules, all_remote_presents, all_remote_schedules, near_part, far_part, tables_of}
 use Rattle.publication.specs.Laws.{HaveSmallEntries, HasSmallSentEntries, PublicationsAreFit}
-use Rattle.pat_pmt.specs.Pat.{pat_body}
-use Rattle.pat_pmt.specs.Pmt.{pmt_body}
-use Rattle.nit_sdt.specs.Nit.{nit_body}
+use Rattle.table_bodies.specs.Pat.{pat_body}
+use Rattle.table_bodies.specs.Pmt.{pmt_body}
+use Rattle.table_bodies.specs.Nit.{nit_body}
 use Rattle.mux_model.proofs.FedFacts.{different_parts}
 use Rattle.publication.proofs.PartFacts.{of_any, remote_of_any, own_different, remote_different, apart_parts}
 use Rattle.publication.proofs.ProgramFacts.{pat_short, pmt_short, nit_short}

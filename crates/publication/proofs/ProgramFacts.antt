@@ -5,21 +5,21 @@ use Rattle.std.proofs.lemmas.List.{length-map}
 use Rattle.std.proofs.lemmas.List.Sums.{sum_by-cons}
 use Rattle.std.proofs.lemmas.List.Elements.{All-from_recursion}
 use Rattle.si_lists.proofs.Lists.{all_map, all_to_map, all_two}
-use Rattle.si_text.specs.Decoding.{shown_bytes}
+use Rattle.guide_model.specs.Decoding.{shown_bytes}
 use Rattle.guide_model.specs.declared.stream.Cable.{Cable}
 use Rattle.guide_model.specs.declared.stream.Component.{Component}
 use Rattle.mux_model.specs.declared.mux.MuxService.{MuxService}
 use Rattle.mux_model.specs.declared.mux.Other.{Other}
 use Rattle.mux_model.specs.declared.mux.Mux.{Mux}
 use Rattle.mux_model.specs.Sound.{IsSound, IsSoundOther, remote_services, IsSoundService, IsSoundComponent, HasSoundCable, HasSoundLanguage}
-use Rattle.desc_event.proofs.Pieces.{length-coded_text}
-use Rattle.desc_service.specs.CableDelivery.{FitsCable}
-use Rattle.desc_service.proofs.Entries.{length-languages_body}
-use Rattle.pat_pmt.specs.declared.pat.PatEntry.{PatEntry}
-use Rattle.pat_pmt.specs.Pat.{pat_body, HasPid as HasProgramPid}
-use Rattle.pat_pmt.specs.Pmt.{HasPid, FitsComponent, FitsPmt, component_bytes, language_descriptors, pmt_body}
-use Rattle.nit_sdt.proofs.Networks.{cable_small, nit-has_its_size}
-use Rattle.nit_sdt.specs.Nit.{FitsStream, CanBeWritten, nit_body, stream_size}
+use Rattle.descriptors.proofs.Pieces.{length-coded_text}
+use Rattle.descriptors.specs.CableDelivery.{FitsCable}
+use Rattle.descriptors.proofs.ServiceEntries.{length-languages_body}
+use Rattle.table_bodies.specs.declared.pat.PatEntry.{PatEntry}
+use Rattle.table_bodies.specs.Pat.{pat_body, HasPid as HasProgramPid}
+use Rattle.table_bodies.specs.Pmt.{HasPid, FitsComponent, FitsPmt, component_bytes, language_descriptors, pmt_body}
+use Rattle.table_bodies.proofs.Networks.{cable_small, nit-has_its_size}
+use Rattle.table_bodies.specs.Nit.{FitsStream, CanBeWritten, nit_body, stream_size}
 use Rattle.publication.specs.Programs.{program_entry, pat_of, pmt_of}
 use Rattle.publication.specs.Network.{kind_of, remote_kind, stream_of, other_stream, nit_of}
 

@@ -32,20 +32,20 @@ use Rattle.section_codec.specs.Segments.{segment_last_in}
 use Rattle.section_codec.proofs.ContentFacts.{last_number-from}
 use Rattle.sub_collect.proofs.Whole.{from_zero}
 use Rattle.sub_collect.proofs.Segmented.{by_segments}
-use Rattle.eit_codec.specs.declared.eit.Eit.{Eit}
-use Rattle.eit_codec.specs.Eit.{IsTyped, eit_in}
-use Rattle.eit_tables.specs.Eit.{Bearer, own, bearer_key}
-use Rattle.eit_tables.specs.Present.{present_of}
-use Rattle.eit_tables.specs.Schedule.{schedule_of}
-use Rattle.eit_tables.specs.Laws.{AreSmallEntries, AreEit, Names}
-use Rattle.eit_tables.proofs.EntryFacts.{typed_small}
-use Rattle.eit_tables.proofs.EitFacts.{present_fit, schedule_fit, events_name, events_read}
-use Rattle.pat_pmt.specs.Pat.{pat_body, is_pat_body}
-use Rattle.pat_pmt.specs.Pmt.{pmt_body, is_pmt_body}
-use Rattle.pat_pmt.proofs.Programs.{written_pats, pmt-reads_back}
-use Rattle.nit_sdt.specs.Nit.{nit_body, is_nit_body}
-use Rattle.nit_sdt.specs.Sdt.{is_sdt_body}
-use Rattle.nit_sdt.proofs.Networks.{written_nits}
+use Rattle.table_bodies.specs.declared.eit.Eit.{Eit}
+use Rattle.table_bodies.specs.Eit.{IsTyped, eit_in}
+use Rattle.publication.specs.Eit.{Bearer, own, bearer_key}
+use Rattle.publication.specs.Present.{present_of}
+use Rattle.publication.specs.Schedule.{schedule_of}
+use Rattle.publication.specs.EitLaws.{AreSmallEntries, AreEit, Names}
+use Rattle.publication.proofs.EntryFacts.{typed_small}
+use Rattle.publication.proofs.EitFacts.{present_fit, schedule_fit, events_name, events_read}
+use Rattle.table_bodies.specs.Pat.{pat_body, is_pat_body}
+use Rattle.table_bodies.specs.Pmt.{pmt_body, is_pmt_body}
+use Rattle.table_bodies.proofs.Programs.{written_pats, pmt-reads_back}
+use Rattle.table_bodies.specs.Nit.{nit_body, is_nit_body}
+use Rattle.table_bodies.specs.Sdt.{is_sdt_body}
+use Rattle.table_bodies.proofs.Networks.{written_nits}
 use Rattle.publication.specs.Sections.{single_table}
 use Rattle.publication.specs.Programs.{pat_of, pat_key, pat_table, pmt_of, pmt_key, pmt_table}
 use Rattle.publication.specs.Network.{kind_of, remote_kind, own_kinds, remote_kinds, nit_of, nit_key, nit_table}

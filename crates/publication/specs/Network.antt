@@ -1,16 +1,16 @@
 -- The network information table of a multiplex (EN 300 468, 5.2.1).
 use Rattle.std.specs.Prelude.{List, ◌∷◌, map}
-use Rattle.si_text.specs.declared.shown.Shown.TheVariants.{Text}
+use Rattle.guide_model.specs.declared.shown.Shown.TheVariants.{Text}
 use Rattle.mux_model.specs.declared.mux.MuxService.{MuxService}
 use Rattle.mux_model.specs.declared.mux.RemoteService.{RemoteService}
 use Rattle.mux_model.specs.declared.mux.Other.{Other}
 use Rattle.mux_model.specs.declared.mux.Mux.{Mux}
 use Rattle.section_codec.specs.declared.table.Key.{Key}
 use Rattle.section_codec.specs.declared.table.SubTable.{SubTable}
-use Rattle.desc_service.specs.declared.service_list.ServiceKind.{ServiceKind}
-use Rattle.nit_sdt.specs.declared.nit.NitStream.{NitStream}
-use Rattle.nit_sdt.specs.declared.nit.Nit.{Nit}
-use Rattle.nit_sdt.specs.Nit.{nit_body}
+use Rattle.descriptors.specs.declared.service_list.ServiceKind.{ServiceKind}
+use Rattle.table_bodies.specs.declared.nit.NitStream.{NitStream}
+use Rattle.table_bodies.specs.declared.nit.Nit.{Nit}
+use Rattle.table_bodies.specs.Nit.{nit_body}
 use Rattle.publication.specs.Sections.{single_table}
 
 -- a service by its id and its type

@@ -4,10 +4,10 @@ use Rattle.mux_model.specs.declared.mux.MuxService.{MuxService}
 use Rattle.mux_model.specs.declared.mux.Mux.{Mux}
 use Rattle.section_codec.specs.declared.table.Key.{Key}
 use Rattle.section_codec.specs.declared.table.SubTable.{SubTable}
-use Rattle.pat_pmt.specs.declared.pat.PatEntry.{PatEntry}
-use Rattle.pat_pmt.specs.declared.pmt.Pmt.{Pmt}
-use Rattle.pat_pmt.specs.Pat.{pat_body}
-use Rattle.pat_pmt.specs.Pmt.{pmt_body}
+use Rattle.table_bodies.specs.declared.pat.PatEntry.{PatEntry}
+use Rattle.table_bodies.specs.declared.pmt.Pmt.{Pmt}
+use Rattle.table_bodies.specs.Pat.{pat_body}
+use Rattle.table_bodies.specs.Pmt.{pmt_body}
 use Rattle.publication.specs.Sections.{single_table}
 
 -- ---- PAT

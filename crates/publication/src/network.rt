@@ -5,12 +5,12 @@ ghost use Rattle.publication.specs.Network.{kind_of, remote_kind, remote_kinds, 
 
 use crate::programs::NIT_PID;
 use crate::sections::single_table;
-use desc_service::{ServiceKind, ServiceKinds};
+use descriptors::{ServiceKind, ServiceKinds};
+use guide_model::Shown;
 use mux_model::{Mux, MuxService, Other};
-use nit_sdt::{Nit, NitStream, NitStreams, write_nit};
 use section_codec::{Key, SubTable};
-use si_text::Shown;
 use std::alloc::{AllocError, Global};
+use table_bodies::{Nit, NitStream, NitStreams, write_nit};
 
 /// The table_id of the network information table of the actual network (EN 300 468, 5.1.3).
 const NIT: u8 = 0x40;

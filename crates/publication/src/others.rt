@@ -12,7 +12,7 @@ ghost use Rattle.publication.specs.Tables.{HasServicesOf, all_remote_presents, a
 use crate::network::remote_kinds;
 use crate::parts::part_in;
 use crate::sdt::sdt_sections;
-use eit_tables::{Stream, put_remote};
+use crate::{Stream, put_remote};
 use mux_model::{Mux, Other};
 use page_share::PageGuide;
 use section_codec::{Key, SubTable, SubTables, Tier3};

@@ -6,9 +6,9 @@ ghost use Rattle.publication.specs.Programs.{pat_of, pat_table, pmt_of, pmt_tabl
 
 use crate::sections::single_table;
 use mux_model::{Mux, MuxService};
-use pat_pmt::{PatEntries, PatEntry, Pmt, write_pat, write_pmt};
 use section_codec::{Key, SubTable, SubTables};
 use std::alloc::{AllocError, Global};
+use table_bodies::{PatEntries, PatEntry, Pmt, write_pat, write_pmt};
 
 /// The PID and the table_id of the program association table (ISO/IEC 13818-1, 2.4.4.3).
 const PAT_PID: u16 = 0x0000;

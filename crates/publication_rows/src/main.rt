@@ -1,5 +1,5 @@
 //! Tests of publications: `build` of `publication`, `Checker` of `air_audit`, and the airs of
-//! `timed_player`.
+//! `cycle_player`.
 //!
 //! A line of `stdin` is a call with its arguments and the answer that is wanted (`run_rows`).
 #![tactic(auto)]

@@ -2,11 +2,11 @@
 ghost use Rattle.std.specs.Prelude.{◌≤◌, ◌<◌, ◌*◌};
 
 use crate::guides::{offsets_at, tables_at};
+use cycle_player::TimedPlayer;
 use row_lines::Row;
 use si_base::crc32;
 use si_causes::MemSink;
 use si_time::{Moment, read_moment};
-use timed_player::TimedPlayer;
 
 // A rate from 100,000 to 100,000,000; 100,000 where the row has another, which is refused.
 fn rate(row: &mut Row) -> u32

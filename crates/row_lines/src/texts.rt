@@ -1,6 +1,6 @@
 // Codes, texts and times in the notation of rows.
 use crate::line::{Row, quoted, repeated};
-use si_text::{Shown, Txt};
+use guide_model::{Shown, Txt};
 use si_time::{Moment, read_duration, read_moment};
 use std::alloc::{AllocError, Global};
 

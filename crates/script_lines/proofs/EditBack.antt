@@ -20,7 +20,7 @@ use Rattle.input_lines.specs.Fields.{record_of}
 use Rattle.input_lines.specs.Ahead.{Ahead, Row, Tail, Found, Came, and_then}
 use Rattle.script_lines.specs.Heads.{edit_head}
 use Rattle.script_lines.specs.Edits.{items_of, with_items, edit_from}
-use Rattle.field_text.specs.Genres.{genre_text, genres_text}
+use Rattle.guide_model.specs.Genres.{genre_text, genres_text}
 use Rattle.script_lines.specs.EditFields.{country_field, rating_field, item_fields, edit_fields, item_rows, HaveFields, EditsReadBack}
 use Rattle.script_lines.proofs.Genres.{genres_of_some}
 use Rattle.script_lines.proofs.NumberBack.{small, digits_of, number_back}

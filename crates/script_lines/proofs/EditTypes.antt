@@ -6,7 +6,7 @@ use Rattle.std.proofs.lemmas.Bool.{leb-true}
 use Rattle.si_lists.proofs.Truths.{second_true}
 use Rattle.si_lists.proofs.Lists.{all_map}
 use Rattle.si_lists.proofs.Outcomes.{then_some, map_some, if_some, any_some}
-use Rattle.si_text.specs.Decoding.{IsKept}
+use Rattle.guide_model.specs.Decoding.{IsKept}
 use Rattle.guide_model.specs.declared.event.Genre.{Genre}
 use Rattle.input_lines.specs.Fields.{line_fields, is_line, record_of}
 use Rattle.input_lines.specs.Numbers.{is_word, is_numeral, value_from, in_range, number_in}

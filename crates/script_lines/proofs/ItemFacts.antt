@@ -5,7 +5,7 @@ use Rattle.std.specs.Prelude.{◌≤◌, Option, Some, None, IfSome, option_map,
 use Rattle.std.specs.List.{AllByRecursion}
 use Rattle.si_lists.proofs.Lists.{all_map, all_drop}
 use Rattle.si_lists.proofs.Outcomes.{map_some, if_some}
-use Rattle.si_text.specs.Decoding.{IsKept}
+use Rattle.guide_model.specs.Decoding.{IsKept}
 use Rattle.input_lines.specs.Fields.{record_of}
 use Rattle.input_lines.specs.Numbers.{is_word, number_in}
 use Rattle.input_lines.specs.Ahead.{Ahead, Row, Found, Came, Stopped, IfCame, on_line}

@@ -1,6 +1,6 @@
 -- The fields of an edit's lines, which read back as the edit.
 use Rattle.std.specs.Prelude.{◌≡◌, ℕ, List, [], ◌∷◌, ◌++◌, length, map, Option, Some, None, codes, decimal}
-use Rattle.field_text.specs.Genres.{genres_text}
+use Rattle.guide_model.specs.Genres.{genres_text}
 use Rattle.input_lines.specs.Fields.{record_of}
 use Rattle.journal_model.specs.declared.edit.RawRating.{RawRating}
 use Rattle.journal_model.specs.declared.edit.Item.{Item}

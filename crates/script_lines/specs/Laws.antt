@@ -1,7 +1,7 @@
 -- How the edits and the items ahead go on, and what they have.
 use Rattle.std.specs.Prelude.{◌≡◌, ℕ, Bool, List}
 use Rattle.std.specs.List.{AllByRecursion}
-use Rattle.si_text.specs.Decoding.{IsKept}
+use Rattle.guide_model.specs.Decoding.{IsKept}
 use Rattle.input_lines.specs.Ahead.{Ahead, IfCame, and_all}
 use Rattle.journal_model.specs.declared.edit.Edit.{Edit}
 use Rattle.journal_model.specs.Edits.{IsTypedEdit}

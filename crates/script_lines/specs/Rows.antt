@@ -10,7 +10,7 @@ use Rattle.input_lines.specs.Ahead.{End, NoCommand, Ends, Breaks, Unread}
 use Rattle.script_lines.specs.Items.{genre_of, genres_of, rating_of, item_of, item_line}
 use Rattle.script_lines.specs.Heads.{edit_head}
 use Rattle.script_lines.specs.Edits.{items_of, edits_ahead, edits_of}
-use Rattle.field_text.specs.Genres.{genres_text}
+use Rattle.guide_model.specs.Genres.{genres_text}
 use Rattle.script_lines.specs.EditFields.{edit_fields}
 use Rattle.input_lines.specs.Fields.{fields_compute}
 use Rattle.journal_model.specs.declared.reply.Field.TheVariants.{Segment}

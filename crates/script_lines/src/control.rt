@@ -5,10 +5,10 @@ ghost use Rattle.input_lines.specs.Reads.{NextOf, Says};
 ghost use Rattle.script_lines.specs.Controls.{control_of, first_control, publish_of, tick_of};
 ghost use Rattle.journal_model.specs.Steps.{IsControlWithin};
 
+use guide_model::Txt;
 use input_lines::{EditStop, fields, is_word, next_record_line};
 use journal_model::Control;
 use si_causes::{LineReader, Source};
-use si_text::Txt;
 use si_time::{Moment, read_moment};
 use std::alloc::Global;
 

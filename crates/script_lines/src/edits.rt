@@ -11,10 +11,10 @@ ghost use Rattle.script_lines.specs.Edits.{first_edit, first_item, items_of, rea
 
 use crate::heads::{Head, read_head};
 use crate::items::read_item_line;
+use guide_model::Txt;
 use input_lines::{EditStop, LineFields, fields, next_record_line};
 use journal_model::{DayItems, Edit, Item};
 use si_causes::{LineReader, Source};
-use si_text::Txt;
 use std::alloc::Global;
 
 // The item that line `at` is.

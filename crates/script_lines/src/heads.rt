@@ -3,9 +3,9 @@ ghost use Rattle.std.specs.Prelude.{◌≡◌, IfOk, IfSome};
 ghost use Rattle.script_lines.specs.Heads.{IsShapedHead, clear_of, day_head_of, edit_head, name_of, put_of, withdraw_of};
 
 use crate::items::{read_day, read_item};
+use guide_model::Txt;
 use input_lines::{is_word, number};
 use journal_model::{DayText, Edit};
-use si_text::Txt;
 use std::alloc::{AllocError, Global};
 
 /// What the line of an edit gives: a whole edit, or a day and how many items follow on lines of their own.

@@ -3,10 +3,9 @@ ghost use Rattle.std.specs.Prelude.{◌≡◌, IfOk, IfSome, map};
 ghost use Rattle.script_lines.specs.Items.{day_of, genre_from, genre_of, genres_of, item_line, item_of, length_of, rating_of, stamp_of};
 ghost use Rattle.journal_model.specs.Edits.{IsShapedItem};
 
-use guide_model::{Genre, Genres};
+use guide_model::{Genre, Genres, Txt};
 use input_lines::{is_word, number};
 use journal_model::{DayText, Item, Length, RawRating, Stamp};
-use si_text::Txt;
 use si_time::has_shape;
 use std::alloc::{AllocError, Global};
 

@@ -7,9 +7,9 @@ ghost use Rattle.journal_model.specs.Steps.{IsInWindow};
 ghost use Rattle.script_lines.specs.Outcomes.{alone, counted_field, day_fault_of, field_of, id_in, id_of, late_of, member_of, outcome_of_fields, published_of, reply_of, swapped_of};
 
 use crate::words::plain_field;
+use guide_model::Txt;
 use input_lines::{is_word, number, numeral};
 use journal_model::{DayFault, Field, Outcome, Reply};
-use si_text::Txt;
 use si_time::read_moment;
 
 fn read_id(fields: &[Txt]) -> Option<u16>

@@ -8,10 +8,10 @@ ghost use Rattle.script_lines.specs.Script.{IsItemWithin, IsRead, IsShapedScript
 use crate::control::read_control;
 use crate::edits::read_edit;
 use crate::kept_outcome::read_outcome;
+use guide_model::Txt;
 use input_lines::{EditStop, LineFields, fields, is_word, next_record_line, number, numeral};
 use journal_model::{Control, Outcome, Step};
 use si_causes::{LineReader, Source};
-use si_text::Txt;
 use std::alloc::Global;
 
 /// An item of a script: a command, with its caller's number; the outcome that is kept behind a command, with the number

@@ -5,7 +5,7 @@ use Rattle.std.specs.Option.{option_or}
 use Rattle.std.specs.Str.{is_utf8}
 use Rattle.std.proofs.lemmas.Bool.{cases_Bool, eqb-true}
 use Rattle.std.proofs.lemmas.Slice.Eq.{bytes_eq-Decides}
-use Rattle.si_text.specs.Control.{has_control}
+use Rattle.guide_model.specs.Control.{has_control}
 use Rattle.si_time.specs.Readings.{has_shape, moment_in}
 use Rattle.guide_model.specs.declared.event.Genre.{Genre}
 use Rattle.input_lines.specs.Fields.{line_fields, record_of}

@@ -11,3 +11,6 @@ pub mod NoteReads
 mod Exact
 pub mod NotingsAhead
 pub mod Following
+pub mod ReportLineFacts
+pub mod Longest
+pub mod PieceFacts

@@ -3,7 +3,7 @@ use Rattle.std.proofs.Common.{ℕ, Bool, true, false, List, [], ◌∷◌, lengt
 use Rattle.std.specs.Prelude.{Option, Some, None, IfSome, is_some, codes, not, nat_le, ◌==◌, ◌+◌, if◌then◌else◌}
 use Rattle.std.specs.Option.{option_or}
 use Rattle.std.specs.Str.{is_utf8}
-use Rattle.si_text.specs.Control.{has_control}
+use Rattle.guide_model.specs.Control.{has_control}
 use Rattle.si_time.specs.Readings.{has_shape, moment_in}
 use Rattle.input_lines.specs.Fields.{line_fields}
 use Rattle.input_lines.specs.Numbers.{is_word, number_in}

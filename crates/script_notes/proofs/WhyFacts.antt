@@ -7,7 +7,7 @@ use Rattle.std.proofs.lemmas.Bool.{and_parts, cases_Bool}
 use Rattle.std.proofs.lemmas.Bool.Decides.{nat_tests}
 use Rattle.std.proofs.lemmas.List.Folds.{list_all-append}
 use Rattle.si_lists.proofs.Filters.{list_all-more}
-use Rattle.si_text.specs.Control.{all_printing, is_printing}
+use Rattle.guide_model.specs.Control.{all_printing, is_printing}
 use Rattle.si_time.specs.Moments.{moment_text}
 use Rattle.journal_model.specs.declared.reply.Field.{Field}
 use Rattle.journal_model.specs.declared.reply.Field.TheVariants.{Count, Segment}
@@ -18,7 +18,7 @@ use Rattle.journal_model.specs.declared.step.Outcome.{Outcome}
 use Rattle.journal_model.specs.declared.step.Outcome.TheVariants.{Edited, Ticked, Late, Published, Swapped}
 use Rattle.journal_model.specs.Steps.{IsInWindow}
 use Rattle.script_lines.specs.Outcomes.{day_fault_fields, field_fields, outcome_fields}
-use Rattle.command_text.proofs.PlainFields.{is_written, moment_written}
+use Rattle.journal_text.proofs.PlainFields.{is_written, moment_written}
 use Rattle.journal_text.specs.Entries.{outcome_text, with_commas}
 use Rattle.script_notes.specs.declared.why.LineWord.{LineWord}
 use Rattle.script_notes.specs.declared.why.LineWord.TheVariants as word

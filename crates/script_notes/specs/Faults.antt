@@ -2,7 +2,7 @@
 use Rattle.std.specs.Prelude.{ℕ, ◌+◌, ◌==◌, Bool, not, nat_le, List, [], ◌∷◌, length, Option, Some, None, is_some, if◌then◌else◌, codes, find}
 use Rattle.std.specs.Option.{option_or}
 use Rattle.std.specs.Str.{is_utf8}
-use Rattle.si_text.specs.Control.{has_control}
+use Rattle.guide_model.specs.Control.{has_control}
 use Rattle.si_time.specs.Readings.{has_shape, moment_in}
 use Rattle.input_lines.specs.Fields.{line_fields}
 use Rattle.input_lines.specs.Numbers.{is_word, number_in}

@@ -6,3 +6,7 @@ pub mod Held
 pub mod Walks
 pub mod Sound
 pub mod Laws
+pub mod Whole
+pub mod Pieces
+pub mod ReportLaws
+mod Rows

@@ -1,6 +1,6 @@
 -- The words that say why a script line is at fault.
 use Rattle.std.specs.Prelude.{◌≡◌, ℕ, ◌++◌, true, List, codes, decimal}
-use Rattle.si_text.specs.Control.{all_printing}
+use Rattle.guide_model.specs.Control.{all_printing}
 use Rattle.journal_model.specs.Steps.{IsInWindow}
 use Rattle.journal_text.specs.Entries.{outcome_text}
 use Rattle.script_notes.specs.declared.why.LineWord.{LineWord}

@@ -5,12 +5,12 @@ ghost use Rattle.script_lines.specs.Script.{kept_in};
 ghost use Rattle.script_lines.specs.Heads.{edit_head as the_edit};
 ghost use Rattle.script_notes.specs.Heads.{IsSoundHead, command_head, feed_head, fields_head, kept_head, line_head};
 
+use guide_model::Txt;
 use input_lines::fields;
 use journal_model::{DayText, Step};
 use script_lines::{
     Head, ScriptItem, read_caller, read_feed, read_head, read_outcome, read_short, starts_outcome,
 };
-use si_text::Txt;
 use std::alloc::{AllocError, Global};
 
 /// A day whose items follow on lines of their own: who asks, the feed, the service, the date, and how many items.

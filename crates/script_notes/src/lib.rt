@@ -12,21 +12,32 @@
 //! Tested in `note_rows`: each form of a comment, and what is read after it.
 //!
 //! Not promised: that `Memory` comes only where memory runs out.
+//!
+//! A report that is written as a script is played, and what is whole of it where it was cut.
+//!
+//! A piece of such a report is an entry of the journal or a comment (`Piece`), which [`put_comment`]
+//! appends. The whole entries of a text are its longest front that ends with the line of an outcome
+//! (`whole_entries_are_longest`). Of a report that was cut anywhere they are the text of its whole
+//! pieces up to the last entry (`whole_entries_are_kept`).
 #![tactic(auto)]
 
+mod comment;
 mod day;
 mod head;
 mod laws;
 mod noting;
 mod reading;
+mod report_laws;
 mod why;
 mod why_fields;
 mod why_line;
 mod why_text;
 mod words;
 
+pub use comment::put_comment;
 pub use laws::{comments_are_printing, notings_go_on, why_is_exact};
 pub use noting::{Held, Noting};
 pub use reading::next_noting;
+pub use report_laws::{whole_entries_are_kept, whole_entries_are_longest};
 pub use why::{FieldName, LineWord, Why};
 pub use why_text::put_why;

@@ -5,9 +5,9 @@ ghost use Rattle.script_notes.specs.Faults.{unless, why_clear, why_command, why_
 
 use crate::why::{FieldName, LineWord, Why};
 use crate::words::word_named;
+use guide_model::Txt;
 use input_lines::{is_word, number};
 use script_lines::{read_caller, read_genres, read_outcome};
-use si_text::Txt;
 use si_time::{has_shape, read_moment};
 use std::alloc::{AllocError, Global};
 

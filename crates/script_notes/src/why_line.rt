@@ -5,8 +5,8 @@ ghost use Rattle.script_notes.specs.Notings.{is_attached, told};
 
 use crate::why::Why;
 use crate::why_fields::{why_fields, why_item};
+use guide_model::has_control;
 use input_lines::fields;
-use si_text::has_control;
 use std::alloc::{AllocError, Global};
 
 /// The most bytes that a line may have.

@@ -6,3 +6,4 @@ pub mod Parts
 pub mod Tests
 pub mod Counting
 pub mod Distinct
+pub mod RunFacts

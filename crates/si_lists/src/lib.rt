@@ -2,4 +2,14 @@
 //! DVB.
 //!
 //! It has no code, only lemmas. A lemma moves here as soon as a second crate needs it.
+//!
+//! How things in order are split into groups within a limit, each as long as possible.
+//!
+//! It has no code, only definitions and one law. Things that fit by themselves are split so that
+//! the groups join to the whole, each is within the limit, and none could take one thing more
+//! (`runs_are_longest`).
 #![tactic(auto)]
+
+mod laws;
+
+pub use laws::runs_are_longest;

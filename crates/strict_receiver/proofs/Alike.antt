@@ -4,7 +4,7 @@ use Rattle.std.specs.Prelude.{if◌then◌else◌, map}
 use Rattle.ts_packets.specs.Bytes.{pid_in}
 use Rattle.ts_demux.specs.Breaks.{is_lost}
 use Rattle.sub_collect.specs.Marks.{Taken, Taken.Forgot, all_took, dones_over}
-use Rattle.heard_completions.specs.Dones.{counted_heard, done_key}
+use Rattle.guide_receiver.specs.Dones.{counted_heard, done_key}
 use Rattle.guide_screen.specs.Screen.{heard_of}
 use Rattle.guide_receiver.specs.Guides.{guide_over}
 use Rattle.guide_receiver.specs.Heard.{took_by}

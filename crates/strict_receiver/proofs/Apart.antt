@@ -11,7 +11,7 @@ use Rattle.sub_collect.specs.Marks.{Taken, Taken.ForgotAll, since_mark, completi
 use Rattle.sub_collect.specs.declared.completed.Completed.{Completed}
 use Rattle.sub_collect.proofs.Marking.{starts_afresh}
 use Rattle.sub_collect.proofs.MarksShown.{sections-all_forgot}
-use Rattle.heard_completions.specs.Dones.{counted_heard}
+use Rattle.guide_receiver.specs.Dones.{counted_heard}
 use Rattle.guide_receiver.specs.Heard.{took_by}
 use Rattle.strict_receiver.specs.Strict.{marks_by, taken_of}
 use Rattle.strict_receiver.specs.Earlier.{sections_in, taken_in, taken_after, counted_after}

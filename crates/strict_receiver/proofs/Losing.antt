@@ -16,9 +16,9 @@ use Rattle.sub_collect.specs.Runs.{Counted}
 use Rattle.sub_collect.specs.Marks.{Taken, Taken.Forgot, dones_over, section_in, sections_taken}
 use Rattle.sub_collect.specs.declared.completed.Completed.{Completed}
 use Rattle.sub_collect.proofs.MarksShown.{sections-free, dones_over-append}
-use Rattle.heard_completions.specs.Counting.{counted_among}
-use Rattle.heard_completions.specs.Dones.{counted_heard}
-use Rattle.heard_completions.proofs.Shown.{among-append}
+use Rattle.guide_receiver.specs.Counting.{counted_among}
+use Rattle.guide_receiver.specs.Dones.{counted_heard}
+use Rattle.guide_receiver.proofs.Shown.{among-append}
 use Rattle.guide_receiver.specs.Heard.{took_by}
 use Rattle.strict_receiver.specs.Strict.{marks_by, taken_by, taken_from, taken_of}
 

@@ -5,8 +5,8 @@ use Rattle.ts_demux.specs.declared.section.RawSection.{RawSection}
 use Rattle.ts_demux.specs.Sections.{heard_all}
 use Rattle.sub_collect.specs.Runs.{Counted}
 use Rattle.sub_collect.specs.Marks.{Taken, Taken.ForgotAll, dones_over}
-use Rattle.heard_completions.specs.declared.done.DoneKey.{DoneKey}
-use Rattle.heard_completions.specs.Dones.{counted_heard, done_key}
+use Rattle.guide_receiver.specs.declared.done.DoneKey.{DoneKey}
+use Rattle.guide_receiver.specs.Dones.{counted_heard, done_key}
 use Rattle.guide_receiver.specs.Guides.{view_after}
 use Rattle.guide_screen.specs.View.{View}
 use Rattle.guide_screen.specs.Screen.{heard_of}

@@ -3,7 +3,7 @@ use Rattle.std.specs.Prelude.{◌≡◌, ℕ, List, [], ◌∷◌, ◌++◌, fla
 use Rattle.section_codec.specs.declared.table.Key.{Key}
 use Rattle.ts_demux.specs.Breaks.{is_lost}
 use Rattle.sub_collect.specs.Marks.{run_over, completions_over}
-use Rattle.heard_completions.specs.Dones.{dones_by}
+use Rattle.guide_receiver.specs.Dones.{dones_by}
 use Rattle.guide_receiver.specs.Guides.{guide_of}
 use Rattle.strict_receiver.specs.Strict.{taken_of, lost_by, strict_dones_by, strict_guide_of}
 use Rattle.strict_receiver.specs.Earlier.{taken_after}

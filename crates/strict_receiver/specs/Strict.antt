@@ -4,8 +4,8 @@ use Rattle.std.specs.Prelude.{ℕ, List, [], ◌∷◌, ◌++◌, if◌then◌el
 use Rattle.ts_packets.specs.Bytes.{pid_in}
 use Rattle.ts_demux.specs.Breaks.{is_lost}
 use Rattle.sub_collect.specs.Marks.{Taken, Taken.Forgot, dones_over}
-use Rattle.heard_completions.specs.declared.done.DoneKey.{DoneKey}
-use Rattle.heard_completions.specs.Dones.{done_key}
+use Rattle.guide_receiver.specs.declared.done.DoneKey.{DoneKey}
+use Rattle.guide_receiver.specs.Dones.{done_key}
 use Rattle.guide_receiver.specs.Heard.{took_by}
 use Rattle.guide_receiver.specs.Guides.{view_over, guide_over}
 use Rattle.guide_screen.specs.View.{View}

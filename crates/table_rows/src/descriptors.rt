@@ -1,16 +1,15 @@
 // The descriptors of networks, streams, services and components, both ways.
 ghost use Rattle.std.specs.Prelude.{IsTrue};
-ghost use Rattle.desc_service.specs.CableDelivery.{FitsCable};
+ghost use Rattle.descriptors.specs.CableDelivery.{FitsCable};
 
-use desc_service::{
+use descriptors::{
     ServiceKind, ServiceKinds, ServiceText, read_cable_delivery_system, read_iso_639_language,
     read_network_name, read_service, read_service_list, write_cable_delivery_system,
     write_iso_639_language, write_network_name, write_service, write_service_list,
 };
-use guide_model::Cable;
+use guide_model::{Cable, Shown};
 use row_lines::{Row, code_in, each_word, put_appended, put_code, put_read, put_shown, text};
 use si_base::Items;
-use si_text::Shown;
 
 /// `write_iso_639_language CODE ..`.
 pub fn write_languages(row: &mut Row) {

@@ -1,7 +1,6 @@
 // Bodies of tables that are looked at and not read.
-use nit_sdt::{is_nit_body, is_sdt_body};
-use pat_pmt::{is_pat_body, is_pmt_body};
 use row_lines::Row;
+use table_bodies::{is_nit_body, is_pat_body, is_pmt_body, is_sdt_body};
 
 // Whether these bytes are a body of the table of this call; none where no table has it.
 fn is_body(call: &str, bytes: &[u8]) -> Option<bool> {

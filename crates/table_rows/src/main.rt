@@ -1,4 +1,4 @@
-//! Tests of tables other than events: `desc_service`, `pat_pmt`, `nit_sdt` and `time_tables`.
+//! Tests of tables other than events: `descriptors`, `table_bodies` and `time_tables`.
 //!
 //! A line of `stdin` is a call with its arguments and the answer that is wanted (`run_rows`).
 #![tactic(auto)]

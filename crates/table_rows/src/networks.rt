@@ -1,13 +1,13 @@
 // The network information table, both ways.
 ghost use Rattle.std.specs.Prelude.{◌<◌, sum_by, IsTrue};
 ghost use Rattle.std.specs.List.{All};
-ghost use Rattle.nit_sdt.specs.Nit.{FitsStream, stream_size};
+ghost use Rattle.table_bodies.specs.Nit.{FitsStream, stream_size};
 
 use crate::descriptors::{cable_in, fits, kinds_in, put_cable, put_kinds};
-use nit_sdt::{Nit, NitStream, read_nit, write_nit};
+use guide_model::Shown;
 use row_lines::{Row, each_part, put_made, put_read, put_shown, text};
 use si_base::Items;
-use si_text::Shown;
+use table_bodies::{Nit, NitStream, read_nit, write_nit};
 
 // A stream: its two ids, its cable or `-`, and its services, as `2 1 - 201:1`.
 fn stream_in(row: &mut Row) -> Option<NitStream> {

@@ -1,13 +1,13 @@
 // The program tables, both ways.
 ghost use Rattle.std.specs.Prelude.{IsTrue};
 ghost use Rattle.std.specs.List.{All};
-ghost use Rattle.pat_pmt.specs.Pat.{HasPid};
-ghost use Rattle.pat_pmt.specs.Pmt.{HasPid as HasPidOf};
+ghost use Rattle.table_bodies.specs.Pat.{HasPid};
+ghost use Rattle.table_bodies.specs.Pmt.{HasPid as HasPidOf};
 
 use guide_model::Component;
-use pat_pmt::{PatEntry, Pmt, read_pat, read_pmt, write_pat, write_pmt};
 use row_lines::{Row, code_in, each_word, put_code, put_made, put_read};
 use si_base::Items;
+use table_bodies::{PatEntry, Pmt, read_pat, read_pmt, write_pat, write_pmt};
 
 // A program and a PID, as `101:256`.
 fn program_in(row: &mut Row, word: &str) -> PatEntry {

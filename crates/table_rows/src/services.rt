@@ -1,13 +1,13 @@
 // The service description table, both ways.
 ghost use Rattle.std.specs.Prelude.{IsTrue};
 ghost use Rattle.std.specs.List.{All};
-ghost use Rattle.nit_sdt.specs.Sdt.{FitsService};
+ghost use Rattle.table_bodies.specs.Sdt.{FitsService};
 
-use nit_sdt::{Sdt, SdtService, SdtServices, read_sdt, service_len, write_sdt};
+use guide_model::{Shown, Txt};
 use row_lines::{Row, each_part, put_made, put_read, put_shown, text};
 use si_base::Items;
-use si_text::{Shown, Txt};
 use std::alloc::AllocError;
+use table_bodies::{Sdt, SdtService, SdtServices, read_sdt, service_len, write_sdt};
 
 /// The bytes for entries in the body of a section: 1,024 without the header, the CRC, original_network_id and a reserved byte.
 const ROOM: usize = 1_009;

@@ -6,7 +6,7 @@ use Rattle.si_time.specs.Moments.{bcd, moment_bcd}
 use Rattle.si_time.specs.Readings.{moment_from_bcd, duration_from_bcd}
 use Rattle.si_time.specs.declared.moment.Moment.{Moment}
 use Rattle.guide_model.specs.declared.offset.Offset.{Offset}
-use Rattle.desc_parts.specs.Descriptors.{descriptor}
+use Rattle.descriptors.specs.Descriptors.{descriptor}
 
 -- ---- written
 

@@ -1,13 +1,13 @@
 // Bodies of event information, both ways.
 ghost use Rattle.std.specs.Prelude.{IsTrue};
 ghost use Rattle.std.specs.List.{All};
-ghost use Rattle.eit_codec.specs.Eit.{IsCodable};
+ghost use Rattle.table_bodies.specs.Eit.{IsCodable};
 
 use crate::events::{event, is_codable, put_event};
-use eit_codec::{Eit, EitHead, read_eit, write_eit};
 use guide_model::Event;
 use row_lines::{Row, each_part, put_read};
 use si_base::{Bytes, Items};
+use table_bodies::{Eit, EitHead, read_eit, write_eit};
 
 /// `write_eit HEAD / EVENT / EVENT ..`: the body.
 pub fn write(row: &mut Row) {

@@ -1,13 +1,12 @@
 // Descriptors both ways.
 use crate::events::{event, genres, have_nibbles, is_codable, rating};
-use desc_event::{
+use descriptors::{
     ExtendedPiece, RawDescs, ShortEvent, event_len, read_descriptors, write_content,
     write_event_descriptors, write_extended_event, write_parental_rating, write_short_event,
 };
-use guide_model::Event;
+use guide_model::{Event, Shown};
 use row_lines::{Row, code, put_appended, put_read, text};
 use si_base::Items;
-use si_text::Shown;
 
 /// `write_content GENRES`.
 pub fn content(row: &mut Row) {

@@ -1,15 +1,14 @@
 // Events and what they have, in the notation of rows.
 ghost use Rattle.std.specs.Prelude.{◌≤◌, length, IsTrue};
 ghost use Rattle.std.specs.List.{All};
-ghost use Rattle.desc_event.specs.Content.{HasNibbles};
-ghost use Rattle.eit_codec.specs.Eit.{IsCodable};
+ghost use Rattle.descriptors.specs.Content.{HasNibbles};
+ghost use Rattle.table_bodies.specs.Eit.{IsCodable};
 
-use guide_model::{Event, Genre, Genres, Rating, ScreenEvent};
+use guide_model::{Event, Genre, Genres, Rating, ScreenEvent, Txt, coded_len};
 use row_lines::{
     MOST, Row, code, code_in, duration, moment, put_code, put_letters, put_shown, repeated, text,
 };
 use si_base::Items;
-use si_text::{Txt, coded_len};
 use si_time::{Moment, write_duration, write_moment};
 
 /// An event: its id, start, duration and language, its name and its short and extended text, its rating or `-`, and its genres or

@@ -1,7 +1,7 @@
 // What bytes of descriptors and bodies are read as.
 use crate::bodies;
 use crate::events::{put_genres, put_ratings};
-use desc_event::{
+use descriptors::{
     ExtendedPiece, Ratings, RawDescs, ShortEvent, read_content, read_descriptors,
     read_extended_event, read_parental_rating, read_short_event,
 };

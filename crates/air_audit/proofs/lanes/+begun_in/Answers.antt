@@ -1,6 +1,6 @@
 use Rattle.std.proofs.Common.{◌≡◌, ◌<◌, ◌-◌, ◌∷◌, ℕ, length, get_or, sym, ap, ◌∙◌, arith}
 use Rattle.std.proofs.lemmas.List.{get_or_default}
-use Rattle.cycle_laying.specs.declared.placed.Placed.{Placed}
+use Rattle.air_model.specs.declared.placed.Placed.{Placed}
 use Rattle.air_audit.specs.Progress.{laid_at, waiting_from}
 use Rattle.air_audit.proofs.Moving.{begun_fill, begun_wrong, begun_past, begun_section, section_at}
 use Rattle.air_audit.proofs.Nexts.{waits_at, begun_within, still_waits, link_further}

@@ -1,6 +1,6 @@
 use Rattle.std.proofs.Common.{◌≡◌, ◌<◌, ◌∷◌, ◌++◌, [], ℕ, List, Result, sym, ap, ◌∙◌, arith, length, get_or, if◌then◌else◌, is_ok}
 use Rattle.std.proofs.lemmas.List.Elements.{All-from_recursion}
-use Rattle.cycle_laying.specs.declared.placed.Placed.{Placed}
+use Rattle.air_model.specs.declared.placed.Placed.{Placed}
 use Rattle.air_audit.proofs.Begins.{places_more}
 use Rattle.air_audit.proofs.linking.put_in_order.Goals as goal
 

@@ -1,9 +1,9 @@
 use Rattle.std.proofs.Common.{◌≡◌, List, ◌++◌, ◌∷◌, [], ◌∙◌, subst}
 use Rattle.std.specs.Prelude.{OnErr}
 use Rattle.si_lists.proofs.Outcomes.{on_ok}
-use Rattle.heard_completions.specs.declared.done.DoneKey.{DoneKey}
+use Rattle.guide_receiver.specs.declared.done.DoneKey.{DoneKey}
 use Rattle.guide_receiver.specs.Heard.{ReceiverStandsFor}
-use Rattle.heard_completions.specs.Dones.{dones_by}
+use Rattle.guide_receiver.specs.Dones.{dones_by}
 use Rattle.air_monitor.specs.Heard.{AppendsFrontOf, lines_at}
 use Rattle.air_monitor.proofs.listener.hear_at.Goals as goal
 

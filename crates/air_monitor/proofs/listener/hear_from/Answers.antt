@@ -1,6 +1,6 @@
 use Rattle.std.proofs.Common.{◌≡◌, ◌++◌, ◌∷◌, [], drop, false, true, arith}
 use Rattle.guide_receiver.specs.Heard.{ReceiverStandsFor}
-use Rattle.heard_completions.specs.Dones.{dones_by}
+use Rattle.guide_receiver.specs.Dones.{dones_by}
 use Rattle.air_monitor.specs.Heard.{AppendsFrontOf, HearsBy, lines_at}
 use Rattle.air_monitor.proofs.Outcomes.{ok_both, err_then}
 use Rattle.air_monitor.proofs.Lines.{from_join, front_from, sync_of}

@@ -1,7 +1,7 @@
 use Rattle.std.proofs.Common.{◌≡◌, ◌+◌, ◌-◌, ◌≤◌, ◌++◌, ℕ, List, length}
 use Rattle.std.specs.Prelude.{flat_map}
-use Rattle.cycle_plan.specs.Cursor.{upto}
-use Rattle.air_paced.specs.Planning.{in_turns, body_of}
+use Rattle.air_model.specs.Cursor.{upto}
+use Rattle.cycle_timing.specs.Planning.{in_turns, body_of}
 use Rattle.cycle_timing.specs.Tiers.{tiers_of}
 use Rattle.cycle_timing.proofs.Chunks.{chunks_from}
 use Rattle.cycle_timing.proofs.body.body_of.Given as goal

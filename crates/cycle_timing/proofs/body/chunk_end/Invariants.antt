@@ -1,7 +1,7 @@
 use Rattle.std.proofs.Common.{◌≡◌, ◌≤◌, ◌-◌, ℕ, length}
 use Rattle.std.specs.Prelude.{slice_index}
-use Rattle.cycle_plan.specs.Cutting.{cut_from}
-use Rattle.cycle_plan.specs.Cursor.{upto}
+use Rattle.air_model.specs.Cutting.{cut_from}
+use Rattle.air_model.specs.Cursor.{upto}
 use Rattle.cycle_timing.proofs.Chunks.{in_fronts}
 use Rattle.cycle_timing.proofs.body.chunk_end.Given as goal
 

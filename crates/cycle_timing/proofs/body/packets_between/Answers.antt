@@ -1,8 +1,8 @@
 use Rattle.std.proofs.Common.{ℕ, ◌≡◌, ◌+◌, ◌-◌, ap, arith}
 use Rattle.std.specs.Prelude.{slice_index}
 use Rattle.section_codec.specs.Contents.{numbers_from}
-use Rattle.cycle_plan.specs.Cutting.{packets_in}
-use Rattle.cycle_plan.proofs.Cursors.{packets-more}
+use Rattle.air_model.specs.Cutting.{packets_in}
+use Rattle.air_model.proofs.Cursors.{packets-more}
 use Rattle.cycle_timing.proofs.body.packets_between.Goals as goal
 
 pub loop-index-preserved : goal.loop-index-preserved

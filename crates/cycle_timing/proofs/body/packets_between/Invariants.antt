@@ -1,7 +1,7 @@
 use Rattle.std.proofs.Common.{◌≡◌, ◌-◌, ◌*◌, ◌≤◌}
 use Rattle.std.specs.Prelude.{slice_index}
 use Rattle.section_codec.specs.Contents.{numbers_from}
-use Rattle.cycle_plan.specs.Cutting.{packets_in}
+use Rattle.air_model.specs.Cutting.{packets_in}
 use Rattle.cycle_timing.proofs.body.packets_between.Given as goal
 
 abbrev pub invariant-loop-index : goal.invariant-loop-index

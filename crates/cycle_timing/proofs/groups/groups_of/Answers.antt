@@ -1,8 +1,8 @@
 use Rattle.std.proofs.Common.{◌<◌, ◌==◌, ℕ, List, Option, Some, None, if◌then◌else◌, length, sym, ap, ap₂, ◌∙◌, subst}
 use Rattle.std.specs.Option.{option_or}
-use Rattle.cycle_plan.specs.Cursor.{upto}
-use Rattle.air_paced.specs.SubTables.{groups}
-use Rattle.air_paced.specs.Planning.{table_at}
+use Rattle.air_model.specs.Cursor.{upto}
+use Rattle.cycle_timing.specs.SubTables.{groups}
+use Rattle.cycle_timing.specs.Planning.{table_at}
 use Rattle.cycle_timing.specs.Turns.{grouped}
 use Rattle.cycle_timing.proofs.Grouping.{place_in, numbers_of, groups_push, places_push, place_groups, upto_push}
 use Rattle.cycle_timing.proofs.groups.groups_of.Goals as goal

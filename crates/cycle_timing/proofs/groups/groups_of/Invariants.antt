@@ -1,9 +1,9 @@
 use Rattle.std.proofs.Common.{◌≡◌, ℕ}
 use Rattle.std.specs.Ordering.{nat_cmp}
 use Rattle.std.specs.BTreeMap.{get, IsOrdered}
-use Rattle.cycle_plan.specs.Cursor.{upto}
-use Rattle.air_paced.specs.SubTables.{groups}
-use Rattle.air_paced.specs.Planning.{table_at}
+use Rattle.air_model.specs.Cursor.{upto}
+use Rattle.cycle_timing.specs.SubTables.{groups}
+use Rattle.cycle_timing.specs.Planning.{table_at}
 use Rattle.cycle_timing.proofs.Grouping.{place_in, numbers_of}
 use Rattle.cycle_timing.proofs.groups.groups_of.Given as goal
 

@@ -1,7 +1,7 @@
 use Rattle.std.proofs.Common.{◌≡◌, ◌+◌, ℕ, List, drop}
 use Rattle.std.specs.Prelude.{not}
 use Rattle.std.specs.List.{prefix_len}
-use Rattle.air_paced.specs.Leads.{is_of_events}
+use Rattle.cycle_timing.specs.Leads.{is_of_events}
 use Rattle.cycle_timing.proofs.leads.count_before_events.Given as goal
 
 abbrev pub invariant-loop-group : goal.invariant-loop-group

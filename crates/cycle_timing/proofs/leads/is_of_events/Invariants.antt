@@ -1,5 +1,5 @@
 use Rattle.std.proofs.Common.{◌≡◌, false, take}
-use Rattle.air_paced.specs.Leads.{is_of_events}
+use Rattle.cycle_timing.specs.Leads.{is_of_events}
 use Rattle.cycle_timing.proofs.leads.is_of_events.Given as goal
 
 abbrev pub invariant-loop-index : goal.invariant-loop-index

@@ -1,7 +1,7 @@
 use Rattle.std.proofs.Common.{◌++◌, [], List, ℕ, length, ap, ◌∙◌, arith}
 use Rattle.std.specs.List.{cons_option}
 use Rattle.air_timing.specs.Turns.{turn_of}
-use Rattle.air_paced.specs.Leads.{in_turn}
+use Rattle.cycle_timing.specs.Leads.{in_turn}
 use Rattle.cycle_timing.proofs.Leading.{lead_more}
 use Rattle.cycle_timing.proofs.leads.lead_of.Goals as goal
 

@@ -1,5 +1,5 @@
 use Rattle.std.proofs.Common.{◌≡◌, take}
-use Rattle.air_paced.specs.Leads.{lead_from}
+use Rattle.cycle_timing.specs.Leads.{lead_from}
 use Rattle.cycle_timing.proofs.leads.lead_of.Given as goal
 
 abbrev pub invariant-loop-group : goal.invariant-loop-group

@@ -1,5 +1,5 @@
 use Rattle.std.proofs.Common.{◌≡◌, take}
-use Rattle.air_paced.specs.Leads.{lead_packets}
+use Rattle.cycle_timing.specs.Leads.{lead_packets}
 use Rattle.cycle_timing.proofs.leads.lead_packets.Given as goal
 
 abbrev pub invariant-loop-index : goal.invariant-loop-index

@@ -1,7 +1,7 @@
 use Rattle.std.proofs.Common.{◌≡◌, ℕ, map}
 use Rattle.section_codec.specs.Contents.{numbers_from}
 use Rattle.air_timing.specs.Turns.{often_of}
-use Rattle.air_paced.specs.Leads.{lead_from}
+use Rattle.cycle_timing.specs.Leads.{lead_from}
 use Rattle.cycle_timing.proofs.leads.leads_within.Given as goal
 
 abbrev pub invariant-loop-place : goal.invariant-loop-place

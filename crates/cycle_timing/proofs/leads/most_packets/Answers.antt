@@ -1,5 +1,5 @@
 use Rattle.std.proofs.Common.{ap, ◌∙◌}
-use Rattle.air_paced.specs.Leads.{lead_packets}
+use Rattle.cycle_timing.specs.Leads.{lead_packets}
 use Rattle.cycle_timing.proofs.Leading.{largest_more}
 use Rattle.cycle_timing.proofs.leads.most_packets.Goals as goal
 

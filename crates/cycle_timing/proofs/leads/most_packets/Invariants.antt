@@ -1,5 +1,5 @@
 use Rattle.std.proofs.Common.{◌≡◌, take}
-use Rattle.air_paced.specs.Leads.{most_packets}
+use Rattle.cycle_timing.specs.Leads.{most_packets}
 use Rattle.cycle_timing.proofs.leads.most_packets.Given as goal
 
 abbrev pub invariant-loop-lead : goal.invariant-loop-lead

@@ -1,5 +1,5 @@
 use Rattle.std.proofs.Common.{◌≡◌, take}
-use Rattle.air_paced.specs.Leads.{most_sections}
+use Rattle.cycle_timing.specs.Leads.{most_sections}
 use Rattle.cycle_timing.proofs.leads.most_sections.Given as goal
 
 abbrev pub invariant-loop-group : goal.invariant-loop-group

@@ -2,7 +2,7 @@ use Rattle.std.proofs.Common.{◌≡◌, ℕ, ◌-◌, ◌<◌, List, length, ap
 use Rattle.std.specs.Prelude.{IsTrue, ◌↔◌, ◌^◌}
 use Rattle.air_timing.specs.declared.pace.Paced.{Paced}
 use Rattle.air_timing.specs.Rate.{IsRightSpan, span_at}
-use Rattle.air_paced.specs.Leads.{measure, most_sections}
+use Rattle.cycle_timing.specs.Leads.{measure, most_sections}
 use Rattle.cycle_timing.specs.Plans.{most_timings, timings_with}
 use Rattle.cycle_timing.proofs.Opening.{IsRound, round_is, round_opens, round_plan, round_count}
 use Rattle.cycle_timing.proofs.plan.plan_frames.Goals as goal

@@ -2,14 +2,14 @@ use Rattle.std.proofs.Common.{◌≡◌, ℕ, ◌<◌, List, length, sym, ap, ap
 use Rattle.std.specs.Prelude.{IsTrue, ◌↔◌}
 use Rattle.std.specs.List.{All}
 use Rattle.std.proofs.lemmas.List.{length-map}
-use Rattle.cycle_plan.specs.Cursor.{upto}
+use Rattle.air_model.specs.Cursor.{upto}
 use Rattle.air_timing.specs.declared.pace.Paced.{Paced}
 use Rattle.air_timing.specs.declared.span.Leads.{Leads}
 use Rattle.air_timing.specs.PlanView.{left_of}
 use Rattle.air_timing.specs.Rate.{IsRightSpan, span_at}
-use Rattle.air_paced.specs.SubTables.{groups}
-use Rattle.air_paced.specs.Leads.{measure}
-use Rattle.air_paced.specs.Planning.{table_at, body_of, fast_groups}
+use Rattle.cycle_timing.specs.SubTables.{groups}
+use Rattle.cycle_timing.specs.Leads.{measure}
+use Rattle.cycle_timing.specs.Planning.{table_at, body_of, fast_groups}
 use Rattle.cycle_timing.specs.declared.plan.TimedPlan.{TimedPlan}
 use Rattle.cycle_timing.specs.Listing.{paced_as, paced_under}
 use Rattle.cycle_timing.specs.Tiers.{tiers_of}

@@ -3,7 +3,7 @@ use Rattle.std.specs.Prelude.{IsTrue, ◌↔◌, ◌^◌}
 use Rattle.std.proofs.lemmas.List.Elements.{recursion_from_All}
 use Rattle.air_timing.specs.declared.span.Leads.{Leads}
 use Rattle.air_timing.specs.Rate.{IsRightSpan, span_at}
-use Rattle.air_paced.specs.Leads.{leads_within, most_sections}
+use Rattle.cycle_timing.specs.Leads.{leads_within, most_sections}
 use Rattle.cycle_timing.specs.Plans.{most_timings}
 use Rattle.cycle_timing.proofs.Framing.{measured_some}
 use Rattle.cycle_timing.proofs.plan.plan_round.Goals as goal

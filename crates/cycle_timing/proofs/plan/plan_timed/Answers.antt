@@ -4,13 +4,13 @@ use Rattle.std.specs.List.{AllByRecursion}
 use Rattle.std.proofs.lemmas.List.Elements.{All-from_recursion, recursion_from_All}
 use Rattle.section_codec.specs.SubTables.{IsFit}
 use Rattle.version_book.specs.Airings.{AiredTables}
-use Rattle.cycle_plan.specs.Sections.{is_fast}
+use Rattle.air_model.specs.Sections.{is_fast}
 use Rattle.air_timing.specs.PlanView.{left_of}
 use Rattle.air_timing.specs.Rate.{IsRightSpan}
 use Rattle.air_timing.specs.declared.span.Leads.{Leads}
-use Rattle.air_paced.specs.Again.{IsRight, leads_in}
-use Rattle.air_paced.specs.Leads.{measure}
-use Rattle.air_paced.specs.Planning.{fast_groups, timings_of}
+use Rattle.cycle_timing.specs.Again.{IsRight, leads_in}
+use Rattle.cycle_timing.specs.Leads.{measure}
+use Rattle.cycle_timing.specs.Planning.{fast_groups, timings_of}
 use Rattle.cycle_timing.specs.declared.listed.Listed.{Listed}
 use Rattle.cycle_timing.specs.declared.plan.TimedPlan.{TimedPlan}
 use Rattle.cycle_timing.specs.Listing.{listed_under, paced_under, HasRange, IsSized}

@@ -4,7 +4,7 @@ use Rattle.input_lines.specs.declared.stop.EditStop.TheVariants.{NoCommand, Read
 use Rattle.input_lines.specs.Fields.{record_of}
 use Rattle.input_lines.specs.Ahead.{Ahead, Row, first_row, missing_at, on_line}
 use Rattle.input_lines.proofs.LineReads.{line_read, line_missing, line_stopped, read_said, read_then, read_unread}
-use Rattle.timed_player.specs.declared.clock.Clock.{Clock}
+use Rattle.cycle_player.specs.declared.clock.Clock.{Clock}
 use Rattle.desk_checkpoint.specs.Fields.{clock_of}
 use Rattle.desk_checkpoint.proofs.head.next_clock.Goals as goal
 

@@ -1,7 +1,7 @@
 use Rattle.std.proofs.Common.{refl, ℕ}
 use Rattle.input_lines.specs.Ahead.{Ahead, Came, Found, and_then}
 use Rattle.input_lines.proofs.LineReads.{read_then, read_unread, read_value}
-use Rattle.timed_player.specs.declared.clock.Clock.{Clock}
+use Rattle.cycle_player.specs.declared.clock.Clock.{Clock}
 use Rattle.desk_checkpoint.specs.declared.head.Head.{Head}
 use Rattle.desk_checkpoint.specs.Reads.{clock_ahead, count_line}
 use Rattle.desk_checkpoint.proofs.head.next_head.Goals as goal

@@ -2,8 +2,8 @@ use Rattle.std.proofs.Common.{◌≡◌, ◌++◌, List, flat_map, sym, ap, ◌�
 use Rattle.guide_model.specs.declared.event.Event.{Event}
 use Rattle.journal_model.specs.declared.edit.Edit.TheVariants.{Name}
 use Rattle.journal_model.specs.declared.step.Step.TheVariants.{Edit as edit}
-use Rattle.checkpoint_laws.specs.Items.{put_edits}
-use Rattle.command_text.proofs.LineFacts.{behind}
+use Rattle.desk_checkpoint.specs.Items.{put_edits}
+use Rattle.journal_text.proofs.LineFacts.{behind}
 use Rattle.desk_checkpoint.specs.Text.{feed_steps, put_text, step_text, steps_text}
 use Rattle.desk_checkpoint.proofs.TextFacts.{puts_text}
 use Rattle.desk_checkpoint.proofs.text.put_filling.Goals as goal

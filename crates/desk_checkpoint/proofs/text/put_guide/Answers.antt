@@ -1,7 +1,7 @@
 use Rattle.std.proofs.Common.{◌≡◌, ◌++◌, ℕ, List, OnOk, flat_map, sym, refl, subst, ◌∙◌}
 use Rattle.mux_model.specs.Fed.{fed_services}
 use Rattle.journal_model.specs.declared.step.Step.TheVariants.{Tick}
-use Rattle.command_text.proofs.LineFacts.{behind}
+use Rattle.journal_text.proofs.LineFacts.{behind}
 use Rattle.desk_checkpoint.specs.Text.{service_text, step_text}
 use Rattle.desk_checkpoint.proofs.TextFacts.{guide_text}
 use Rattle.desk_checkpoint.proofs.text.put_guide.Goals as goal

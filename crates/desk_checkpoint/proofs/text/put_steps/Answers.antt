@@ -1,6 +1,6 @@
 use Rattle.std.proofs.Common.{◌≡◌, ◌+◌, ◌++◌, ℕ, List, OnOk, length, ap, arith, append_assoc, subst, sym, ◌∙◌, true}
 use Rattle.std.specs.List.{AllByRecursion}
-use Rattle.timed_player.specs.Clock.{reads}
+use Rattle.cycle_player.specs.Clock.{reads}
 use Rattle.guide_model.specs.declared.guide.Guide.{Guide}
 use Rattle.mux_model.specs.Sound.{IsSound}
 use Rattle.journal_model.specs.declared.step.Entry.{Entry}
@@ -10,9 +10,9 @@ use Rattle.desk_core.specs.Journal.{publishes}
 use Rattle.desk_core.specs.Publications.{guide_after, publication}
 use Rattle.desk_core.proofs.DerivedFacts.{few_publishes}
 use Rattle.desk_core.proofs.MomentFacts.{InRange}
-use Rattle.command_text.specs.Lines.{line_text}
-use Rattle.command_text.proofs.LineFacts.{behind}
-use Rattle.checkpoint_laws.specs.Steps.{guide_steps, publication_steps}
+use Rattle.journal_text.specs.Lines.{line_text}
+use Rattle.journal_text.proofs.LineFacts.{behind}
+use Rattle.desk_checkpoint.specs.Steps.{guide_steps, publication_steps}
 use Rattle.desk_checkpoint.specs.Fields.{count_fields}
 use Rattle.desk_checkpoint.specs.Text.{clock_text, edits_of, steps_text}
 use Rattle.desk_checkpoint.proofs.TextFacts.{desk_text, published_range}

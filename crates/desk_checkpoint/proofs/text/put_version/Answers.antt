@@ -1,5 +1,5 @@
 use Rattle.std.proofs.Common.{◌∷◌, [], codes, decimal, refl}
-use Rattle.command_text.specs.Lines.{and_fields, no_fields}
+use Rattle.journal_text.specs.Lines.{and_fields, no_fields}
 use Rattle.desk_checkpoint.proofs.TextFacts.{put_line}
 use Rattle.desk_checkpoint.proofs.text.put_version.Goals as goal
 

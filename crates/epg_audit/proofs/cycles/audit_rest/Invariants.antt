@@ -3,7 +3,7 @@ use Rattle.std.specs.Prelude.{None, IfSome}
 use Rattle.si_causes.specs.Reading.{room}
 use Rattle.desk_core.specs.Journal.{Legal}
 use Rattle.journal_model.specs.Steps.{IsInWindow}
-use Rattle.cycle_audit.specs.Checking.{IsAtEnd, form_of}
+use Rattle.air_audit.specs.CycleChecking.{IsAtEnd, form_of}
 use Rattle.journal_air.specs.Air.{mux_form}
 use Rattle.epg_play.specs.Items.{Went}
 use Rattle.epg_audit.specs.Audits.{desk_airings}

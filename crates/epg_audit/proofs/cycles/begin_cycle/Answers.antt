@@ -2,10 +2,10 @@ use Rattle.std.proofs.Common.{◌≡◌, ◌++◌, ◌∷◌, [], OnOk, sym, ◌
 use Rattle.desk_core.specs.declared.airing.Airing.{Airing}
 use Rattle.version_book.specs.Airings.{AiredTables}
 use Rattle.version_book.specs.Book.{aired}
-use Rattle.cycle_audit.specs.Checking.{StandsAt, form_of}
+use Rattle.air_audit.specs.CycleChecking.{StandsAt, form_of}
 use Rattle.publication.specs.Tables.{HasServicesOf}
-use Rattle.air_sending.specs.OnAir.{airing_on}
-use Rattle.air_sending.proofs.AirFacts.{airing_is, airing_sent, on_air_services}
+use Rattle.journal_air.specs.OnAir.{airing_on}
+use Rattle.journal_air.proofs.AirFacts.{airing_is, airing_sent, on_air_services}
 use Rattle.epg_audit.proofs.cycles.begin_cycle.Goals as goal
 
 pub build-requires-clause-services : goal.build-requires-clause-services

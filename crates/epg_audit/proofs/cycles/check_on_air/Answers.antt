@@ -1,8 +1,8 @@
 use Rattle.std.proofs.Common.{List, ◌++◌, ◌∷◌, []}
 use Rattle.version_book.specs.Airings.{AiredTables}
-use Rattle.air_sending.specs.OnAir.{airing_on}
-use Rattle.timed_audit.specs.Airs.{seen}
-use Rattle.cycle_audit.specs.Checking.{form_of}
+use Rattle.journal_air.specs.OnAir.{airing_on}
+use Rattle.air_audit.specs.TimedAirs.{seen}
+use Rattle.air_audit.specs.CycleChecking.{form_of}
 use Rattle.epg_audit.proofs.Following.{follows_begun}
 use Rattle.epg_audit.proofs.cycles.check_on_air.Goals as goal
 

@@ -3,7 +3,7 @@ use Rattle.std.specs.Prelude.{None, Option}
 use Rattle.packet_reader.specs.Reading.{PacketReading, packets_to_come}
 use Rattle.version_book.specs.Airings.{AiredTables}
 use Rattle.epg_audit.specs.Checks.{Follows}
-use Rattle.cycle_audit.specs.Checking.{form_of}
+use Rattle.air_audit.specs.CycleChecking.{form_of}
 use Rattle.epg_audit.proofs.recording.check_cycle.Given as goal
 
 abbrev pub invariant-loop-packets : goal.invariant-loop-packets

@@ -2,7 +2,7 @@ use Rattle.std.proofs.Common.{◌≡◌, ◌≤◌, ℕ, Bool, List}
 use Rattle.std.specs.Prelude.{None, Option}
 use Rattle.packet_reader.specs.Reading.{PacketReading, packets_to_come}
 use Rattle.version_book.specs.Airings.{AiredTables}
-use Rattle.cycle_audit.specs.Checking.{Auditing}
+use Rattle.air_audit.specs.CycleChecking.{Auditing}
 use Rattle.epg_audit.specs.Checks.{Follows}
 use Rattle.epg_audit.proofs.recording.check_end.Given as goal
 

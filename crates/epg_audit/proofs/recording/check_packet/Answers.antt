@@ -1,9 +1,9 @@
 use Rattle.std.proofs.Common.{ℕ, List, ◌++◌, ◌∷◌, [], refl, sym, ◌∙◌, subst}
 use Rattle.std.specs.Prelude.{IfNone, IsNone, ◌↔◌}
-use Rattle.timed_audit.specs.Airs.{seen}
-use Rattle.cycle_audit.specs.Airs.{BeginAirAt}
-use Rattle.cycle_audit.specs.Checking.{StandsAt}
-use Rattle.cycle_audit.proofs.Laws.{begins_at, stands_begins}
+use Rattle.air_audit.specs.TimedAirs.{seen}
+use Rattle.air_audit.specs.CycleAirs.{BeginAirAt}
+use Rattle.air_audit.specs.CycleChecking.{StandsAt}
+use Rattle.air_audit.proofs.CycleLaws.{begins_at, stands_begins}
 use Rattle.epg_audit.proofs.Nulls.{seen_more, seen_same}
 use Rattle.epg_audit.proofs.recording.check_packet.Goals as goal
 

@@ -8,7 +8,7 @@ use Rattle.journal_air.specs.Air.{airing_at}
 use Rattle.epg_report.specs.declared.status.Status.{Status}
 use Rattle.epg_audit.specs.declared.cycles.AirCount.{AirCount}
 use Rattle.epg_audit.specs.Audits.{AuditDid, RecordingAudited}
-use Rattle.cycle_audit.specs.Checking.{IsOf}
+use Rattle.air_audit.specs.CycleChecking.{IsOf}
 use Rattle.epg_audit.proofs.Nulls.{none_yet, same_nulls}
 use Rattle.epg_audit.proofs.run.audit_recording.Goals as goal
 

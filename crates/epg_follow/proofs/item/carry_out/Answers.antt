@@ -1,6 +1,6 @@
 use Rattle.std.proofs.Common.{◌≡◌, ap, refl, rules, true, false}
 use Rattle.std.specs.Prelude.{Some}
-use Rattle.air_sending.specs.OnAir.{is_swap}
+use Rattle.journal_air.specs.OnAir.{is_swap}
 use Rattle.epg_follow.specs.declared.follower.Follower.{Follower}
 use Rattle.epg_follow.proofs.ItemFacts.{other_did, swap_cut, swap_did, swap_given_up, unwritten}
 use Rattle.epg_follow.proofs.item.carry_out.Goals as goal

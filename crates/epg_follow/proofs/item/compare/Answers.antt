@@ -2,7 +2,7 @@ use Rattle.std.proofs.Common.{rules, ◌≡◌, true, refl}
 use Rattle.script_notes.specs.declared.noting.Noting.TheVariants.{Item}
 use Rattle.script_lines.specs.declared.script.ScriptItem.TheVariants.{Kept}
 use Rattle.script_notes.specs.declared.why.Why.TheVariants.{Disagrees as Differs}
-use Rattle.follow_report.specs.Pieces.{Noted}
+use Rattle.script_notes.specs.Pieces.{Noted}
 use Rattle.epg_follow.proofs.ItemFacts.{kept_adds, noted_did}
 use Rattle.epg_follow.proofs.item.compare.Goals as goal
 

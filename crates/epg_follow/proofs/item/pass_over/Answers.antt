@@ -1,6 +1,6 @@
 use Rattle.std.proofs.Common.{rules, ◌≡◌, true, refl}
 use Rattle.script_notes.specs.declared.noting.Noting.TheVariants.{Bad}
-use Rattle.follow_report.specs.Pieces.{Noted}
+use Rattle.script_notes.specs.Pieces.{Noted}
 use Rattle.epg_follow.proofs.ItemFacts.{bad_adds, noted_did}
 use Rattle.epg_follow.proofs.item.pass_over.Goals as goal
 

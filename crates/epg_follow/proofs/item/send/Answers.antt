@@ -1,8 +1,8 @@
 use Rattle.std.proofs.Common.{subst}
 use Rattle.version_book.specs.Airings.{AiredTables}
-use Rattle.air_sending.specs.OnAir.{SentCycle}
-use Rattle.air_sending.specs.Tallied.{CountedCycle}
-use Rattle.air_sending.proofs.AirFacts.{on_air_services, airing_is}
+use Rattle.journal_air.specs.OnAir.{SentCycle}
+use Rattle.journal_air.specs.Tallied.{CountedCycle}
+use Rattle.journal_air.proofs.AirFacts.{on_air_services, airing_is}
 use Rattle.epg_follow.specs.Items.{desk_of}
 use Rattle.epg_follow.proofs.item.send.Goals as goal
 

@@ -1,6 +1,6 @@
 use Rattle.std.proofs.Common.{◌≡◌, map, take}
-use Rattle.heard_completions.specs.Dones.{at_packet}
-use Rattle.heard_completions.specs.Texts.{done_lines}
+use Rattle.guide_receiver.specs.Dones.{at_packet}
+use Rattle.guide_receiver.specs.Texts.{done_lines}
 use Rattle.epg_listen.proofs.lines.lines_of.Given as goal
 
 abbrev pub invariant-loop-done : goal.invariant-loop-done

@@ -2,7 +2,7 @@ use Rattle.std.proofs.Common.{sym, ap, ◌∙◌, subst}
 use Rattle.std.specs.Prelude.{Err}
 use Rattle.desk_core.specs.Journal.{entry_after}
 use Rattle.desk_core.specs.Desks.{DeskState, and_entry}
-use Rattle.air_sending.proofs.SwapFacts.{after_legal}
+use Rattle.journal_air.proofs.SwapFacts.{after_legal}
 use Rattle.script_lines.specs.declared.script.ScriptItem.TheVariants.{Step as step, Kept}
 use Rattle.epg_play.specs.declared.stop.PlayStop.{PlayStop}
 use Rattle.epg_play.specs.Items.{Stops}

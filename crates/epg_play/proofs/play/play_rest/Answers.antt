@@ -5,9 +5,9 @@ use Rattle.air_model.specs.Air.{Aired}
 use Rattle.cycle_player.specs.Sending.{Sending}
 use Rattle.desk_core.specs.Journal.{Legal}
 use Rattle.desk_core.specs.Desks.{DeskState}
-use Rattle.air_sending.specs.OnAir.{HasAired}
-use Rattle.air_sending.specs.Tallied.{HasTallied}
-use Rattle.air_sending.proofs.SwapFacts.{after_swap_aired, after_other_aired}
+use Rattle.journal_air.specs.OnAir.{HasAired}
+use Rattle.journal_air.specs.Tallied.{HasTallied}
+use Rattle.journal_air.proofs.SwapFacts.{after_swap_aired, after_other_aired}
 use Rattle.epg_play.specs.Items.{Stops, StepAt}
 use Rattle.epg_play.specs.Played.{AiredTo, IsBehindMux, TalliedTo}
 use Rattle.epg_play.proofs.CourseFacts.{went_none, cut_stop, cut_aired, item_behind, sent_behind, stopped_aired, stopped_no_air}

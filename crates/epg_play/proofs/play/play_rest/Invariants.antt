@@ -4,7 +4,7 @@ use Rattle.si_causes.specs.Reading.{room}
 use Rattle.air_model.specs.Air.{Aired}
 use Rattle.desk_core.specs.Journal.{Legal}
 use Rattle.journal_model.specs.Steps.{IsInWindow}
-use Rattle.air_sending.specs.OnAir.{HasAired}
+use Rattle.journal_air.specs.OnAir.{HasAired}
 use Rattle.epg_play.specs.Items.{Went}
 use Rattle.epg_play.proofs.TallyFacts.{HasKept}
 use Rattle.epg_play.proofs.play.play_rest.Given as goal

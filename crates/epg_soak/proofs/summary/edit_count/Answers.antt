@@ -1,6 +1,6 @@
 use Rattle.std.proofs.Common.{◌+◌, ◌∙◌, ℕ, sym, ap, arith}
 use Rattle.journal_model.specs.declared.step.Entry.{Entry}
-use Rattle.workload_laws.specs.Journals.{edit_in}
+use Rattle.epg_soak.specs.Journals.{edit_in}
 use Rattle.si_lists.proofs.Counting.{counts_more, counts_same}
 use Rattle.epg_soak.proofs.summary.edit_count.Goals.{then-is_edit, else-is_edit}
 use Rattle.epg_soak.proofs.summary.edit_count.Goals as goal

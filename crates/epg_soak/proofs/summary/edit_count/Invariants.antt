@@ -1,5 +1,5 @@
 use Rattle.std.proofs.Common.{◌≡◌, ◌≤◌, length, take}
-use Rattle.workload_laws.specs.Journals.{edits_in}
+use Rattle.epg_soak.specs.Journals.{edits_in}
 use Rattle.epg_soak.proofs.summary.edit_count.Given as goal
 
 abbrev pub invariant-loop-entry : goal.invariant-loop-entry

@@ -1,7 +1,7 @@
 use Rattle.std.proofs.Common.{◌≡◌, List, Option, map, filter, option_map, ap, ap₂, sym, ◌∙◌}
 use Rattle.std.specs.Prelude.{is_some}
 use Rattle.section_codec.specs.declared.table.Key.{Key}
-use Rattle.nit_sdt.specs.declared.nit.NitStream.{NitStream}
+use Rattle.table_bodies.specs.declared.nit.NitStream.{NitStream}
 use Rattle.guide_screen.specs.Reading.{streams_in}
 use Rattle.guide_screen.specs.Screen.{other_stream}
 use Rattle.guide_parts.specs.Parts.{heard_key, pat_heard, nit_heard, sdt_heard, home_by, home_of, stream_by}

@@ -5,9 +5,9 @@ use Rattle.sub_collect.specs.Runs.{Counted, counted}
 use Rattle.sub_collect.specs.Marks.{all_took, dones_over}
 use Rattle.sub_collect.specs.Collectors.{CollectorStandsOver}
 use Rattle.sub_collect.specs.declared.completed.Completed.{Completed}
-use Rattle.heard_completions.specs.Counting.{counted_in}
-use Rattle.heard_completions.specs.Dones.{done_key}
-use Rattle.heard_completions.specs.declared.counting.CountedSection.{CountedSection}
+use Rattle.guide_receiver.specs.Counting.{counted_in}
+use Rattle.guide_receiver.specs.Dones.{done_key}
+use Rattle.guide_receiver.specs.declared.counting.CountedSection.{CountedSection}
 use Rattle.guide_receiver.proofs.Over.{one_shown_over}
 use Rattle.guide_receiver.proofs.receiver.count.Goals as goal
 

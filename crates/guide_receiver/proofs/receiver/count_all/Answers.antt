@@ -11,11 +11,11 @@ use Rattle.sub_collect.specs.Marks.{Taken.Took, all_took, dones_over, section_in
 use Rattle.sub_collect.specs.Collectors.{CollectorStandsOver}
 use Rattle.sub_collect.proofs.MarksShown.{sections-free}
 use Rattle.sub_collect.proofs.KeyCounts.{count-grows}
-use Rattle.heard_completions.specs.Counting.{counted_in, counted_among}
-use Rattle.heard_completions.specs.declared.done.DoneKey.{DoneKey}
+use Rattle.guide_receiver.specs.Counting.{counted_in, counted_among}
+use Rattle.guide_receiver.specs.declared.done.DoneKey.{DoneKey}
 use Rattle.guide_receiver.specs.Latest.{keys_shown_over, kept_keys, AreLatest}
-use Rattle.heard_completions.specs.Dones.{done_key}
-use Rattle.heard_completions.proofs.Shown.{among-append, among-next}
+use Rattle.guide_receiver.specs.Dones.{done_key}
+use Rattle.guide_receiver.proofs.Shown.{among-append, among-next}
 use Rattle.guide_receiver.proofs.Over.{more_shown_over, keys-more_over}
 use Rattle.guide_receiver.proofs.receiver.count_all.Goals as goal
 

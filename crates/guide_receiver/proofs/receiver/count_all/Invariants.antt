@@ -1,10 +1,10 @@
 use Rattle.std.proofs.Common.{◌≡◌, ◌++◌, List, map, take}
 use Rattle.sub_collect.specs.Marks.{Taken, all_took, dones_over}
 use Rattle.sub_collect.specs.Collectors.{CollectorStandsOver}
-use Rattle.heard_completions.specs.Counting.{counted_among}
+use Rattle.guide_receiver.specs.Counting.{counted_among}
 use Rattle.guide_receiver.specs.Known.{AreKnown}
 use Rattle.guide_receiver.specs.Latest.{keys_shown_over, kept_keys, AreLatest}
-use Rattle.heard_completions.specs.Dones.{done_key}
+use Rattle.guide_receiver.specs.Dones.{done_key}
 use Rattle.guide_receiver.proofs.receiver.count_all.Given as goal
 
 abbrev pub invariant-loop-section : goal.invariant-loop-section

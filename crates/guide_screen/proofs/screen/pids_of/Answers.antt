@@ -1,5 +1,5 @@
 use Rattle.std.proofs.Common.{◌-◌, arith}
-use Rattle.pat_pmt.specs.declared.pat.PatEntry.{PatEntry}
+use Rattle.table_bodies.specs.declared.pat.PatEntry.{PatEntry}
 use Rattle.guide_screen.proofs.Pids.{pid_put}
 use Rattle.guide_screen.proofs.screen.pids_of.Goals as goal
 

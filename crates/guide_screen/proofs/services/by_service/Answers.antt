@@ -1,5 +1,5 @@
 use Rattle.std.proofs.Common.{◌≡◌, ◌++◌, ◌∙◌, length, List, ap₂, sym}
-use Rattle.nit_sdt.specs.declared.sdt.SdtService.{SdtService}
+use Rattle.table_bodies.specs.declared.sdt.SdtService.{SdtService}
 use Rattle.guide_screen.proofs.Ordering.{one_taken, all_taken}
 use Rattle.guide_screen.proofs.services.by_service.Goals as goal
 

@@ -1,5 +1,5 @@
 use Rattle.std.proofs.Common.{◌++◌, ◌∷◌, [], ◌∙◌, ap}
-use Rattle.field_text.specs.Genres.{genres_text}
+use Rattle.guide_model.specs.Genres.{genres_text}
 use Rattle.guide_text.proofs.Lines.{event_parts, then_line}
 use Rattle.guide_text.proofs.event.put_event.Goals as goal
 

@@ -1,7 +1,7 @@
 use Rattle.std.proofs.Common.{◌≡◌, ◌∙◌, ap, sym, subst, false, Some}
 use Rattle.std.specs.Str.{IsUtf8}
-use Rattle.si_text.specs.Coding.{all_plain}
-use Rattle.si_text.specs.Control.{has_control}
+use Rattle.guide_model.specs.Coding.{all_plain}
+use Rattle.guide_model.specs.Control.{has_control}
 use Rattle.input_lines.specs.Fields.{line_fields}
 use Rattle.input_lines.proofs.CleanLines.{line_record_of, no_line_record}
 use Rattle.input_lines.proofs.records.fields.Goals as goal

@@ -1,6 +1,6 @@
 use Rattle.std.proofs.Common.{sym, inl, inr}
 use Rattle.std.proofs.lemmas.Bool.{cases_Bool}
-use Rattle.si_text.proofs.PlainFacts.{plain_clean}
+use Rattle.guide_model.proofs.PlainFacts.{plain_clean}
 use Rattle.input_lines.proofs.records.is_refused.Goals as goal
 
 pub returns-else-not-is_plain : goal.returns-else-not-is_plain

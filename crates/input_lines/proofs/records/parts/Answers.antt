@@ -1,7 +1,7 @@
 use Rattle.std.proofs.Common.{◌∙◌, sym, subst, length, lit<}
 use Rattle.std.proofs.lemmas.Iterator.Splits.{YieldsList-from_str_split}
 use Rattle.std.proofs.lemmas.Iterator.Consumers.{YieldsList-turn, YieldsList-end}
-use Rattle.si_text.specs.Decoding.{IsKept}
+use Rattle.guide_model.specs.Decoding.{IsKept}
 use Rattle.input_lines.specs.Fields.{comma_parts, IsPlain}
 use Rattle.input_lines.proofs.CleanLines.{kept_in}
 use Rattle.input_lines.proofs.PlainParts.{plain_in}

@@ -1,7 +1,7 @@
 use Rattle.std.proofs.Common.{sym, ap, subst, arith, sum_by}
 use Rattle.std.specs.List.{All}
-use Rattle.nit_sdt.specs.declared.nit.Nit.{Nit}
-use Rattle.nit_sdt.specs.Nit.{FitsStream, stream_size}
+use Rattle.table_bodies.specs.declared.nit.Nit.{Nit}
+use Rattle.table_bodies.specs.Nit.{FitsStream, stream_size}
 use Rattle.publication.proofs.ProgramFacts.{streams_fit, streams_short}
 use Rattle.publication.proofs.network.nit_table.Goals as goal
 

@@ -7,10 +7,10 @@ use Rattle.guide_model.specs.declared.guide.ServiceGuide.{ServiceGuide}
 use Rattle.mux_model.specs.declared.mux.RemoteService.{RemoteService}
 use Rattle.guide_limits.specs.Events.{midnight}
 use Rattle.guide_limits.specs.Limits.{IsServiceWithin}
-use Rattle.eit_tables.specs.Present.{present_of}
-use Rattle.eit_tables.specs.Schedule.{remote_tables}
-use Rattle.eit_tables.specs.Laws.{AreSmallEntries}
-use Rattle.eit_tables.proofs.ListFacts.{all_next}
+use Rattle.publication.specs.Present.{present_of}
+use Rattle.publication.specs.Schedule.{remote_tables}
+use Rattle.publication.specs.EitLaws.{AreSmallEntries}
+use Rattle.publication.proofs.EitListFacts.{all_next}
 use Rattle.publication.specs.Parts.{no_part, part_of, remote_guide}
 use Rattle.publication.specs.Tables.{bearer_of}
 use Rattle.publication.proofs.ListFacts.{flat_behind, map_behind}

@@ -1,8 +1,8 @@
 use Rattle.std.proofs.Common.{◌≡◌, ◌++◌, map}
 use Rattle.std.specs.Prelude.{take, flat_map}
 use Rattle.guide_limits.specs.Events.{midnight}
-use Rattle.eit_tables.specs.Present.{present_of}
-use Rattle.eit_tables.specs.Schedule.{remote_tables}
+use Rattle.publication.specs.Present.{present_of}
+use Rattle.publication.specs.Schedule.{remote_tables}
 use Rattle.publication.specs.Laws.{HaveSmallEntries}
 use Rattle.publication.specs.Parts.{remote_guide}
 use Rattle.publication.specs.Tables.{bearer_of}

@@ -1,6 +1,6 @@
 use Rattle.std.proofs.Common.{sym, ◌∙◌, subst}
 use Rattle.std.specs.List.{All}
-use Rattle.pat_pmt.specs.Pat.{HasPid}
+use Rattle.table_bodies.specs.Pat.{HasPid}
 use Rattle.publication.proofs.ProgramFacts.{pat_fits}
 use Rattle.publication.proofs.programs.pat_table.Goals as goal
 

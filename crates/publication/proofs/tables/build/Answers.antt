@@ -9,10 +9,10 @@ use Rattle.guide_limits.specs.Events.{midnight}
 use Rattle.guide_limits.specs.Limits.{IsServiceWithin}
 use Rattle.section_codec.specs.declared.table.SubTable.{SubTable}
 use Rattle.section_codec.specs.SubTables.{AreFit}
-use Rattle.eit_tables.specs.Present.{present_table}
-use Rattle.eit_tables.specs.Schedule.{near_tables, far_tables}
-use Rattle.eit_tables.specs.Laws.{AreSmallEntries}
-use Rattle.eit_tables.proofs.ListFacts.{flat_next, all_next}
+use Rattle.publication.specs.Present.{present_table}
+use Rattle.publication.specs.Schedule.{near_tables, far_tables}
+use Rattle.publication.specs.EitLaws.{AreSmallEntries}
+use Rattle.publication.proofs.EitListFacts.{flat_next, all_next}
 use Rattle.publication.specs.Parts.{no_part, part_of, own_guide}
 use Rattle.publication.specs.Laws.{HaveSmallEntries, HasSmallSentEntries}
 use Rattle.publication.specs.Tables.{mux_tables, tables_of}

@@ -3,9 +3,9 @@ use Rattle.std.specs.Prelude.{take, flat_map}
 use Rattle.std.specs.List.{AllByRecursion}
 use Rattle.guide_model.specs.declared.guide.ServiceGuide.{ServiceGuide}
 use Rattle.guide_limits.specs.Events.{midnight}
-use Rattle.eit_tables.specs.Present.{present_table}
-use Rattle.eit_tables.specs.Schedule.{near_tables, far_tables}
-use Rattle.eit_tables.specs.Laws.{AreSmallEntries}
+use Rattle.publication.specs.Present.{present_table}
+use Rattle.publication.specs.Schedule.{near_tables, far_tables}
+use Rattle.publication.specs.EitLaws.{AreSmallEntries}
 use Rattle.publication.specs.Parts.{own_guide}
 use Rattle.publication.specs.Tables.{mux_tables}
 use Rattle.publication.proofs.TableFacts.{other_near}

@@ -1,5 +1,5 @@
 use Rattle.std.proofs.Common.{◌≡◌, ◌∙◌, ap, sym, true, false}
-use Rattle.si_text.specs.Control.{has_control}
+use Rattle.guide_model.specs.Control.{has_control}
 use Rattle.script_notes.proofs.LineFacts.{unread_bytes, unread_control, unread_none}
 use Rattle.script_notes.proofs.why_line.why_unread.Goals as goal
 

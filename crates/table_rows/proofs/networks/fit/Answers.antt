@@ -3,9 +3,9 @@ use Rattle.std.specs.List.{All}
 use Rattle.std.proofs.lemmas.List.{take_all}
 use Rattle.std.proofs.lemmas.List.Elements.{All-more}
 use Rattle.std.proofs.lemmas.List.Sums.{sum_by-le}
-use Rattle.nit_sdt.specs.declared.nit.NitStream.{NitStream}
-use Rattle.nit_sdt.specs.Nit.{FitsStream, stream_size}
-use Rattle.nit_sdt.proofs.Networks.{cable_small}
+use Rattle.table_bodies.specs.declared.nit.NitStream.{NitStream}
+use Rattle.table_bodies.specs.Nit.{FitsStream, stream_size}
+use Rattle.table_bodies.proofs.Networks.{cable_small}
 use Rattle.table_rows.proofs.networks.fit.Goals as goal
 
 pub loop-stream-preserved : goal.loop-stream-preserved

@@ -1,6 +1,6 @@
 use Rattle.std.proofs.Common.{take}
 use Rattle.std.specs.List.{All}
-use Rattle.nit_sdt.specs.Nit.{FitsStream}
+use Rattle.table_bodies.specs.Nit.{FitsStream}
 use Rattle.table_rows.proofs.networks.fit.Given as goal
 
 abbrev pub invariant-loop-stream : goal.invariant-loop-stream

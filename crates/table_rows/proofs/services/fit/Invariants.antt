@@ -1,6 +1,6 @@
 use Rattle.std.proofs.Common.{take}
 use Rattle.std.specs.List.{All}
-use Rattle.nit_sdt.specs.Sdt.{FitsService}
+use Rattle.table_bodies.specs.Sdt.{FitsService}
 use Rattle.table_rows.proofs.services.fit.Given as goal
 
 abbrev pub invariant-loop-service : goal.invariant-loop-service

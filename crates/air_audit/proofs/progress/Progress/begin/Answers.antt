@@ -2,7 +2,7 @@ use Rattle.std.proofs.Common.{◌≡◌, ◌<◌, ℕ, List, sym, ap, ◌∙◌,
 use Rattle.std.specs.List.{AllByRecursion}
 use Rattle.section_codec.specs.declared.table.SubTable.{SubTable}
 use Rattle.air_model.specs.Air.{Sent, at_places}
-use Rattle.cycle_laying.specs.Laying.{sent_at, order_under}
+use Rattle.air_model.specs.Laying.{sent_at, order_under}
 use Rattle.air_audit.specs.Fronts.{all_waiting}
 use Rattle.air_audit.specs.Audits.{on_pid}
 use Rattle.air_audit.proofs.progress.Progress.begin.Goals as goal

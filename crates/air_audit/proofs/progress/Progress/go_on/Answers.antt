@@ -1,6 +1,6 @@
 use Rattle.std.proofs.Common.{◌≡◌, ◌+◌, ◌<◌, ℕ, List, sym, ap, ap₂, ◌∙◌, subst, arith, length, get_or, set}
 use Rattle.std.specs.Prelude.{Result, Ok, Err, None, cond}
-use Rattle.cycle_laying.specs.declared.placed.Placed.{Placed}
+use Rattle.air_model.specs.declared.placed.Placed.{Placed}
 use Rattle.ts_packets.specs.Packets.{Piece}
 use Rattle.air_model.specs.declared.rule.Rule.{Rule}
 use Rattle.air_audit.specs.declared.lanes.Lane.{Lane}

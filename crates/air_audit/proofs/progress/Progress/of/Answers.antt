@@ -5,8 +5,8 @@ use Rattle.std.proofs.lemmas.List.{take_at}
 use Rattle.std.proofs.lemmas.List.Elements.{All-from_recursion}
 use Rattle.air_model.specs.Air.{Sent, at_places}
 use Rattle.air_model.proofs.Planned.{all_at}
-use Rattle.cycle_laying.specs.declared.placed.Placed.{Placed}
-use Rattle.cycle_laying.specs.Laying.{IsPlaced, sent_at}
+use Rattle.air_model.specs.declared.placed.Placed.{Placed}
+use Rattle.air_model.specs.Laying.{IsPlaced, sent_at}
 use Rattle.air_audit.specs.declared.lanes.Lane.{Lane}
 use Rattle.air_audit.specs.Fronts.{all_waiting, to_come_on}
 use Rattle.air_audit.specs.Audits.{on_pid}

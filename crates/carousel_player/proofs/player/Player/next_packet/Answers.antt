@@ -2,7 +2,7 @@ use Rattle.std.proofs.Common.{◌<◌, ◌∷◌, ℕ, List, Some, length, refl,
 use Rattle.std.proofs.lemmas.Bool.Decides.{nat_tests}
 use Rattle.ts_packets.specs.declared.written.TsPacket.{TsPacket}
 use Rattle.carousel_player.specs.Playing.{Playing, Within}
-use Rattle.section_packing.proofs.Sendings.{Sends-one, puts-length}
+use Rattle.carousel_player.proofs.Sendings.{Sends-one, puts-length}
 use Rattle.carousel_player.proofs.Plays.{next_came}
 use Rattle.carousel_player.proofs.player.Player.next_packet.Goals as goal
 

@@ -2,7 +2,7 @@ use Rattle.std.proofs.Common.{◌++◌, ◌∷◌, [], refl, sym, subst}
 use Rattle.std.specs.Prelude.{flat_map}
 use Rattle.std.specs.Io.KnownBytes.{Appends}
 use Rattle.ts_packets.specs.Bytes.{bytes_of_packet}
-use Rattle.section_packing.specs.Sending.{SentAll, SentFront}
+use Rattle.carousel_player.specs.Sending.{SentAll, SentFront}
 use Rattle.carousel_player.specs.Playing.{Playing, AtEnd, GaveUp, Within}
 use Rattle.carousel_player.proofs.Plays.{sent_all, gave_up, on_ok_of, on_err_of}
 use Rattle.carousel_player.proofs.player.Player.play_cycle.Goals as goal

@@ -1,7 +1,7 @@
 use Rattle.std.proofs.Common.{◌≡◌, ℕ, List, length, sym, ap, ◌∙◌, subst}
 use Rattle.section_codec.specs.declared.table.SubTable.{SubTable}
 use Rattle.air_model.proofs.Planned.{all_at}
-use Rattle.cycle_laying.specs.Laying.{IsPlaced, order_under}
+use Rattle.air_model.specs.Laying.{IsPlaced, order_under}
 use Rattle.carousel_player.specs.Laying.{order_left, sections_left, AreToCome}
 use Rattle.carousel_player.proofs.Places.{queue_fits, can_begin, order_goes_on}
 use Rattle.carousel_player.proofs.queue.CycleQueue.begin.Goals as goal

@@ -1,7 +1,7 @@
 use Rattle.std.proofs.Common.{List, subst}
 use Rattle.std.specs.List.{AllByRecursion}
 use Rattle.air_model.specs.Air.{Sent}
-use Rattle.section_packing.specs.Queue.{CanBeSent}
+use Rattle.carousel_player.specs.Queue.{CanBeSent}
 use Rattle.carousel_player.specs.Laying.{order_left}
 use Rattle.carousel_player.proofs.Places.{queue_fits}
 use Rattle.carousel_player.proofs.queue.CycleQueueSectionQueue.pid.Goals as goal

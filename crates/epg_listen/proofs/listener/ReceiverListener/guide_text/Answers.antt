@@ -1,7 +1,7 @@
 use Rattle.std.proofs.Common.{[], ◌≡◌, subst}
 use Rattle.std.specs.Prelude.{IfOk}
 use Rattle.sub_collect.specs.Marks.{all_took}
-use Rattle.heard_completions.specs.Dones.{counted_heard}
+use Rattle.guide_receiver.specs.Dones.{counted_heard}
 use Rattle.guide_screen.specs.View.{View}
 use Rattle.guide_receiver.proofs.Over.{view-free}
 use Rattle.epg_listen.specs.Lines.{guide_shown}

@@ -4,7 +4,7 @@ use Rattle.sub_collect.specs.Marks.{all_took}
 use Rattle.guide_screen.specs.View.{View}
 use Rattle.guide_screen.specs.Holding.{Holds}
 use Rattle.guide_screen.specs.Screen.{heard_of}
-use Rattle.heard_completions.specs.Dones.{counted_heard}
+use Rattle.guide_receiver.specs.Dones.{counted_heard}
 use Rattle.guide_receiver.specs.Guides.{view_after}
 use Rattle.guide_receiver.proofs.Over.{view-free}
 use Rattle.guide_receiver.proofs.receiver.Receiver.guide.Goals as goal

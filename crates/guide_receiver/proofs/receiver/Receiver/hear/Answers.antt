@@ -8,13 +8,13 @@ use Rattle.sub_collect.specs.Marks.{Taken, all_took, dones_over, sections_taken}
 use Rattle.sub_collect.specs.declared.collector.TakeStop.{TakeStop}
 use Rattle.sub_collect.specs.Collectors.{CollectorStandsOver}
 use Rattle.sub_collect.proofs.MarksShown.{sections-free}
-use Rattle.heard_completions.specs.Counting.{counted_among}
+use Rattle.guide_receiver.specs.Counting.{counted_among}
 use Rattle.guide_receiver.specs.Latest.{keys_shown_over, kept_keys, AreLatest, IsClock, offsets_heard}
 use Rattle.guide_receiver.proofs.Latest.{offsets_more}
 use Rattle.guide_model.specs.declared.offset.Offset.{Offset}
 use Rattle.guide_receiver.specs.Heard.{Hearing, took_by, ReceiverStandsFor, ReceiverStandsAfter}
-use Rattle.heard_completions.specs.Dones.{counted_heard, done_key}
-use Rattle.heard_completions.proofs.Shown.{heard-push}
+use Rattle.guide_receiver.specs.Dones.{counted_heard, done_key}
+use Rattle.guide_receiver.proofs.Shown.{heard-push}
 use Rattle.guide_receiver.proofs.Over.{dones-by, counted-free, stands-free}
 use Rattle.guide_receiver.proofs.receiver.Receiver.hear.Goals as goal
 

@@ -1,3 +1,0 @@
-pub mod Coherence
-pub mod Laws
-pub mod Rows

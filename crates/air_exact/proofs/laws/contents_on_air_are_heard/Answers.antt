@@ -1,5 +1,0 @@
-use Rattle.air_exact.proofs.Contents.{contents_heard}
-use Rattle.air_exact.proofs.laws.contents_on_air_are_heard.Goals as goal
-
-pub returns : goal.returns
-returns c = contents_heard

@@ -1,4 +1,0 @@
-pub mod Sections
-pub mod Keys
-pub mod Blocks
-pub mod Told

@@ -1,5 +1,0 @@
-pub mod Versions
-pub mod Joined
-pub mod Cycles
-pub mod Places
-pub mod Whole

@@ -1,4 +1,0 @@
-pub mod Versions
-pub mod Joining
-pub mod Laws
-pub mod Rows

@@ -1,0 +1,14 @@
+pub mod Sending
+pub mod Counting
+pub mod Changes
+pub mod HearingLaws
+pub mod HearingRows
+pub mod Versions
+pub mod Joining
+pub mod JoiningLaws
+pub mod JoiningRows
+pub mod Coherence
+pub mod CoherenceLaws
+pub mod CoherenceRows
+pub mod Exact
+pub mod ExactnessLaws

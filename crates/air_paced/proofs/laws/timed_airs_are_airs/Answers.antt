@@ -1,9 +1,0 @@
-use Rattle.air_paced.proofs.Airs.{timed_airs_are_airs as proved}
-use Rattle.air_paced.proofs.Sent.{timed_cycles_are_cycles}
-use Rattle.air_paced.proofs.laws.timed_airs_are_airs.Goals as goal
-
-pub returns-clause-cycle : goal.returns-clause-cycle
-returns-clause-cycle c = timed_cycles_are_cycles
-
-pub returns-clause-air : goal.returns-clause-air
-returns-clause-air c = proved

@@ -1,5 +1,0 @@
-use Rattle.air_paced.proofs.Times.{timed_airs_tell_the_time as proved}
-use Rattle.air_paced.proofs.laws.timed_airs_tell_the_time.Goals as goal
-
-pub returns : goal.returns
-returns c = proved

@@ -1,5 +1,0 @@
-use Rattle.air_paced.proofs.Airs.{timed_sections_are_on_air}
-use Rattle.air_paced.proofs.laws.timed_sections_stand.Goals as goal
-
-pub returns : goal.returns
-returns c = timed_sections_are_on_air

@@ -1,3 +1,0 @@
-pub mod Aired
-pub mod Laws
-mod Rows

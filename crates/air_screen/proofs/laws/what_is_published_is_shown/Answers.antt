@@ -1,5 +1,0 @@
-use Rattle.air_screen.proofs.Shown.{published_is_shown}
-use Rattle.air_screen.proofs.laws.what_is_published_is_shown.Goals as goal
-
-pub returns : goal.returns
-returns c = published_is_shown c.written_networks_read_back.ensures.nit c.written_networks_read_back.ensures.sdt

@@ -1,5 +1,0 @@
-pub mod OnAir
-pub mod AirOf
-pub mod HeardKeys
-pub mod SentAir
-pub mod Tallied

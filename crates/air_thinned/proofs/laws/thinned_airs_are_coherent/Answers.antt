@@ -1,9 +1,0 @@
-use Rattle.air_thinned.proofs.Coherent.{thinned_coherent}
-use Rattle.air_thinned.proofs.Dones.{thinned_dones}
-use Rattle.air_thinned.proofs.laws.thinned_airs_are_coherent.Goals as goal
-
-pub returns-clause-completed : goal.returns-clause-completed
-returns-clause-completed c = thinned_coherent
-
-pub returns-clause-shown : goal.returns-clause-shown
-returns-clause-shown c = thinned_dones

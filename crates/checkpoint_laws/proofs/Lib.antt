@@ -1,7 +1,0 @@
-pub mod ItemFacts
-pub mod FillFacts
-pub mod BookFacts
-pub mod GoFacts
-pub mod FoldFacts
-pub mod StepFacts
-pub mod AirFacts

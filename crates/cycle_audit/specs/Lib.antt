@@ -1,4 +1,0 @@
-pub mod Airs
-pub mod Checking
-pub mod Checker
-pub mod Breaking

@@ -1,6 +1,0 @@
-use Rattle.std.proofs.Common.{sym, ◌∙◌}
-use Rattle.cycle_laying.proofs.Times.{size_is}
-use Rattle.cycle_laying.proofs.sections.tot_size.Goals as goal
-
-pub returns-clause-size : goal.returns-clause-size
-returns-clause-size c = size_is c.args.offsets.now c.requires (sym c.is_empty.ensures ∙ c.if-is_empty.false)

@@ -1,3 +1,0 @@
-pub mod Planning
-pub mod Laying
-pub mod Telling

@@ -1,6 +1,0 @@
-use Rattle.std.proofs.Common.{arith, sym}
-use Rattle.desc_event.proofs.Pieces.{length-content_of}
-use Rattle.desc_event.proofs.event_descriptors.genres_len.Goals as goal
-
-pub returns-in_default-clause-size : goal.returns-in_default-clause-size
-returns-in_default-clause-size c = sym (length-content_of c.args.genres.now (omega arith))

@@ -1,7 +1,0 @@
-use Rattle.std.proofs.Common.{refl}
-use Rattle.std.specs.Str.{chars}
-use Rattle.desc_parts.proofs.coded.no_text.Goals as goal
-
-pub of_kept-requires : goal.of_kept-requires
-unfolding chars
-of_kept-requires c = refl

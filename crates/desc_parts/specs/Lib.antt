@@ -1,3 +1,0 @@
-pub mod Lengths
-pub mod Descriptors
-pub mod Rows

@@ -1,0 +1,15 @@
+pub mod Lengths
+pub mod Descriptors
+pub mod PartRows
+pub mod Languages
+pub mod NetworkName
+pub mod ServiceList
+pub mod CableDelivery
+pub mod Service
+pub mod ServiceRows
+pub mod ShortEvent
+pub mod ExtendedEvent
+pub mod Content
+pub mod ParentalRating
+pub mod EventDescriptors
+pub mod EventRows

@@ -1,4 +1,0 @@
-pub mod Joined
-pub mod Written
-pub mod ReadBack
-pub mod Looked

@@ -1,7 +1,0 @@
-use Rattle.std.proofs.Common.{◌≡◌, ◌++◌, take, flat_map}
-use Rattle.eit_codec.specs.Eit.{written_bytes}
-use Rattle.eit_codec.proofs.writing.write_entries.Given as goal
-
--- the entries of the events so far stand behind what was there
-abbrev pub invariant-loop-event : goal.invariant-loop-event
-invariant-loop-event l = l.out.items ≡ l.fn.out.items ++ flat_map (written_bytes l.status) (take l.event-index l.events)

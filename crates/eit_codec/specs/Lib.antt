@@ -1,3 +1,0 @@
-pub mod ShownEvent
-pub mod Eit
-pub mod Rows

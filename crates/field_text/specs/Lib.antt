@@ -1,2 +1,0 @@
-pub mod Genres
-mod Rows

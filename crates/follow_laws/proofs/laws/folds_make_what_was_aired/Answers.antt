@@ -1,5 +1,0 @@
-use Rattle.follow_laws.proofs.RecoveryFacts.{fold_runs_make_what_was_aired, folds_make_what_was_aired, resumed_folds_make_what_was_aired, whole_entries_fold}
-use Rattle.follow_laws.proofs.laws.folds_make_what_was_aired.Goals as goal
-
-pub returns : goal.returns
-returns c = record { runs = fold_runs_make_what_was_aired; resumed = resumed_folds_make_what_was_aired; behind = folds_make_what_was_aired; done = whole_entries_fold }

@@ -1,8 +1,0 @@
-use Rattle.follow_laws.proofs.BridgeFacts.{kills_are_bridged}
-use Rattle.follow_laws.proofs.MissingFacts.{bridged_air_is_thinned, bridged_runs_are_heard}
-use Rattle.follow_laws.proofs.RecoveryFacts.{recovered_runs_are_bridged, runs_are_bridged}
-use Rattle.follow_laws.proofs.ManyRunsFacts.{runs_in_a_row_are_one_air}
-use Rattle.follow_laws.proofs.laws.kills_are_bridged.Goals as goal
-
-pub returns : goal.returns
-returns c = record { bridged = kills_are_bridged; recovered = recovered_runs_are_bridged; runs = runs_are_bridged; thinned = bridged_air_is_thinned; heard = bridged_runs_are_heard; many = runs_in_a_row_are_one_air }

@@ -1,5 +1,0 @@
-use Rattle.follow_laws.proofs.FoldFacts.{checkpoints_are_one, folds_again}
-use Rattle.follow_laws.proofs.laws.parts_fold_as_the_whole.Goals as goal
-
-pub returns : goal.returns
-returns c = record { one = checkpoints_are_one; parts = folds_again }

@@ -1,5 +1,0 @@
-use Rattle.follow_laws.proofs.RecoveryFacts.{resumed_runs_go_on, standing_runs_go_on}
-use Rattle.follow_laws.proofs.laws.runs_go_on.Goals as goal
-
-pub returns : goal.returns
-returns c = record { resumed = resumed_runs_go_on; standing = standing_runs_go_on }

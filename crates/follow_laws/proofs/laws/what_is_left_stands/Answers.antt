@@ -1,5 +1,0 @@
-use Rattle.follow_laws.proofs.LeavingFacts.{following_leaves_what_stands, what_is_left_stands}
-use Rattle.follow_laws.proofs.laws.what_is_left_stands.Goals as goal
-
-pub returns : goal.returns
-returns c = record { left = what_is_left_stands; followed = following_leaves_what_stands }

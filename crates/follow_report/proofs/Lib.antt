@@ -1,3 +1,0 @@
-pub mod LineFacts
-pub mod Longest
-pub mod PieceFacts

@@ -1,4 +1,0 @@
-pub mod Whole
-pub mod Pieces
-pub mod Laws
-mod Rows

@@ -1,3 +1,0 @@
-pub mod Shown
-pub mod Reading
-pub mod Dones

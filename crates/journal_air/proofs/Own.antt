@@ -1,0 +1,201 @@
+-- What the tables of a multiplex say: its PAT, its PMTs, its NIT, its SDT and those of other streams.
+use Rattle.std.proofs.Common.{◌≡◌, ℕ, ◌+◌, ◌<◌, List, [], ◌∷◌, ◌++◌, Bool, true, false, Option, Some, map, refl, sym, ap, ap₂, ◌∙◌, subst, arith}
+use Rattle.std.specs.Prelude.{flat_map, if◌then◌else◌, ◌==◌, ◌&&◌, ◌||◌, nat_lt, unwrap_or, option_map}
+use Rattle.std.specs.List.{AllByRecursion}
+use Rattle.std.proofs.lemmas.Bool.Decides.{nat_tests}
+use Rattle.std.proofs.lemmas.List.Elements.{recursion_from_All}
+use Rattle.si_lists.proofs.Lists.{all_map, all_through, all_to_map, all_two, all_front, all_behind}
+use Rattle.guide_model.specs.Decoding.{IsKept}
+use Rattle.guide_model.proofs.RoundTrip.{decoded-coded}
+use Rattle.guide_model.specs.declared.guide.Guide.{Guide}
+use Rattle.guide_model.specs.declared.guide.ServiceGuide.{ServiceGuide}
+use Rattle.mux_model.specs.declared.mux.MuxService.{MuxService}
+use Rattle.mux_model.specs.declared.mux.RemoteService.{RemoteService}
+use Rattle.mux_model.specs.declared.mux.Other.{Other}
+use Rattle.mux_model.specs.declared.mux.Mux.{Mux}
+use Rattle.mux_model.specs.Order.{DoCome}
+use Rattle.mux_model.specs.Sound.{IsSound, IsSoundService, DoAscend, IsSoundRemote, IsSoundOther, has_lower_id, comes_before, HasStreamIds, IsSoundWithIds}
+use Rattle.guide_limits.specs.Limits.{IsServiceWithin, IsGuideWithin}
+use Rattle.si_lists.specs.Runs.{longest_runs}
+use Rattle.si_lists.proofs.RunFacts.{are_longest}
+use Rattle.table_bodies.specs.Pat.{pat_in, pat_body, FitsProgram}
+use Rattle.table_bodies.specs.Pmt.{pmt_body, pmt_in}
+use Rattle.table_bodies.proofs.Programs.{pat-reads_back, pmt-reads_back}
+use Rattle.descriptors.specs.declared.service_list.ServiceKind.{ServiceKind}
+use Rattle.table_bodies.specs.declared.sdt.SdtService.{SdtService}
+use Rattle.table_bodies.specs.declared.sdt.Sdt.{Sdt}
+use Rattle.table_bodies.specs.Nit.{nit_body, nit_in, FitsStream, HasStreamWidths, NitReadsBack}
+use Rattle.table_bodies.specs.Sdt.{sdt_in, HasServiceWidths, SdtReadsBack}
+use Rattle.guide_screen.specs.Reading.{services_in}
+use Rattle.guide_screen.specs.Needs.{with_service, by_service}
+use Rattle.guide_screen.specs.Screen.{pid_in, cable_in}
+use Rattle.publication.specs.Programs.{program_entry, pat_of, pmt_of}
+use Rattle.publication.specs.Network.{nit_of, kind_of, remote_kind, own_kinds, remote_kinds, other_stream}
+use Rattle.publication.specs.Parts.{part_of}
+use Rattle.publication.specs.Sdt.{named_service, sdt_services, service_size, section_body, numbered, sdt_sections}
+use Rattle.publication.proofs.ProgramFacts.{pmt_fits, name_fits, streams_fit, streams_short}
+use Rattle.publication.proofs.SdtFacts.{service_fits, services_fit}
+
+-- ---- programs
+
+programs_fit : (ss : List MuxService) → AllByRecursion IsSoundService ss → AllByRecursion FitsProgram (map program_entry ss)
+programs_fit [] all = tt
+programs_fit (s ∷ ss) all =
+    (record { program = omega (arith, all.0.service.1); pid = omega (arith, all.0.pmt_pid.1) }, programs_fit ss all.1)
+
+pub pat_said : (mux : Mux) → IsSound mux → pat_in (pat_body (pat_of mux)) ≡ Some (pat_of mux)
+pat_said mux sound =
+    pat-reads_back (pat_of mux) (record { program = omega arith; pid = omega arith }, programs_fit mux.services sound.services)
+
+pub pmt_said : (s : MuxService) → IsSoundService s → pmt_in (pmt_body (pmt_of s)) ≡ Some (pmt_of s)
+pmt_said s sound = pmt-reads_back (pmt_of s) (pmt_fits s sound)
+
+-- the PID of each PMT is found under its program
+pub pids_said : (ss : List MuxService) → DoAscend ss → AllByRecursion (λ (s : MuxService). pid_in s.service (map program_entry ss) ≡ Some s.pmt_pid) ss
+pids_said [] up = tt
+pids_said (s ∷ ss) up = (
+  ap (λ (b : Bool). if b then Some s.pmt_pid else pid_in s.service (map program_entry ss)) (own s.service),
+  all_two (λ (t : MuxService). s.service < t.service) (λ (t : MuxService). pid_in t.service (map program_entry ss) ≡ Some t.pmt_pid)
+      (λ (t : MuxService). pid_in t.service (map program_entry (s ∷ ss)) ≡ Some t.pmt_pid)
+      (λ t below said. ap (λ (b : Bool). if b then Some s.pmt_pid else pid_in t.service (map program_entry ss)) (other s.service t.service below) ∙ said)
+      ss up.0 (pids_said ss up.1),
+)
+  where
+    own : (n : ℕ) → (n == n) ≡ true
+    own n = grind (arith, nat_tests)
+
+    other : (a b : ℕ) → a < b → (a == b) ≡ false
+    other a b lt = grind (arith, nat_tests)
+
+-- ---- the network
+
+pub nit_said : NitReadsBack → (mux : Mux) → IsSoundWithIds mux → IsKept mux.network_name → nit_in (nit_body (nit_of mux)) ≡ Some (nit_of mux)
+nit_said back mux sound kept =
+    back (nit_of mux) (record {
+      name = name_fits mux sound.sound;
+      shown = decoded-coded mux.network_name kept;
+      streams = (record { stream = sound.stream; original = sound.original; services = kinds_fit mux.services sound.sound.services; fits = fits.0 }, others_fit mux.others sound.others sound.sound.others.each fits.1);
+      within = omega (arith, streams_short mux sound.sound);
+    })
+  where
+    kinds_fit : (ss : List MuxService) → AllByRecursion IsSoundService ss → AllByRecursion (λ k. k.service < 65536) (map kind_of ss)
+    kinds_fit [] all = tt
+    kinds_fit (s ∷ ss) all = (omega (arith, all.0.service.1), kinds_fit ss all.1)
+
+    remotes_fit : (ss : List RemoteService) → AllByRecursion IsSoundRemote ss → AllByRecursion (λ k. k.service < 65536) (map remote_kind ss)
+    remotes_fit [] all = tt
+    remotes_fit (s ∷ ss) all = (omega (arith, all.0.service.1), remotes_fit ss all.1)
+
+    fits : AllByRecursion FitsStream (nit_of mux).streams
+    fits = recursion_from_All FitsStream (nit_of mux).streams (streams_fit mux sound.sound)
+
+    others_fit : (os : List Other) → AllByRecursion HasStreamIds os → AllByRecursion IsSoundOther os → AllByRecursion FitsStream (map other_stream os) → AllByRecursion HasStreamWidths (map other_stream os)
+    others_fit [] ids sound fit = tt
+    others_fit (o ∷ os) ids sound fit =
+        (record { stream = ids.0.stream; original = ids.0.original; services = remotes_fit o.services sound.0.services; fits = fit.0 }, others_fit os ids.1 sound.1 fit.1)
+
+-- ---- services
+
+abbrev pub AreKept : ServiceGuide → Type 0
+AreKept g = IsKept g.provider × IsKept g.name
+
+-- a service of the SDT has a service_id of 16 bits, and the guide has a part of it within its limits, with names that may be kept
+pub record IsNamed (guide : Guide) (s : ServiceKind) : Type 0 where
+  pub service : s.service < 65536
+  pub within : IsServiceWithin (part_of guide s.service)
+  pub kept : AreKept (part_of guide s.service)
+
+named_wide : (guide : Guide) (s : ServiceKind) → IsNamed guide s → HasServiceWidths (named_service guide s)
+named_wide guide s named =
+    let g = part_of guide s.service in
+    record {
+      service = named.service;
+      fits = service_fits s g named.within;
+      shown = record { provider = decoded-coded g.provider named.kept.0; name = decoded-coded g.name named.kept.1 };
+    }
+
+-- what holds of things in runs holds of each run
+in_runs : {X : Type 0} (P : X → Type 0) (runs : List (List X)) → AllByRecursion P (flat_map (λ (run : List X). run) runs) → AllByRecursion (AllByRecursion P) runs
+in_runs P [] all = tt
+in_runs P (run ∷ runs) all =
+    (all_front P run (flat_map (λ r. r) runs) all, in_runs P runs (all_behind P run (flat_map (λ r. r) runs) all))
+
+sections_said : SdtReadsBack → (original : ℕ) → original < 65536 → (n : ℕ) (runs : List (List SdtService)) → AllByRecursion (AllByRecursion HasServiceWidths) runs
+    → services_in (numbered n (map (section_body original) runs)) ≡ flat_map (λ (run : List SdtService). run) runs
+sections_said back original lt n [] all = refl
+sections_said back original lt n (run ∷ runs) all =
+    let sdt : Sdt = record { original = original; services = run } in
+    let said : sdt_in (section_body original run) ≡ Some sdt = back sdt (record { original = lt; services = all.0 }) in
+    ap₂ (λ (o : Option Sdt) (l : List SdtService). unwrap_or (option_map (λ (x : Sdt). x.services) o) [] ++ l) said
+    (sections_said back original lt (1 + n) runs all.1)
+
+pub sdt_said : SdtReadsBack → (original : ℕ) (guide : Guide) (kinds : List ServiceKind) → original < 65536 → IsGuideWithin guide → AllByRecursion (IsNamed guide) kinds
+    → services_in (sdt_sections original guide kinds) ≡ sdt_services guide kinds
+sdt_said back original guide kinds lt within named =
+    let things : List SdtService = sdt_services guide kinds in
+    let longest = are_longest service_size 1009 things (services_fit guide kinds within) in
+    let wide : AllByRecursion HasServiceWidths things = all_through (IsNamed guide) HasServiceWidths (named_service guide) (named_wide guide) kinds named in
+    sections_said back original lt 0 (longest_runs service_size 1009 things)
+    (in_runs HasServiceWidths (longest_runs service_size 1009 things) (subst (AllByRecursion HasServiceWidths) (sym longest.join) wide))
+    ∙ longest.join
+
+-- ---- their order
+
+abbrev Rise : List SdtService → Type 0
+Rise [] = Unit {0}
+Rise (s ∷ ss) = AllByRecursion (λ (t : SdtService). s.service < t.service) ss × Rise ss
+
+own_rise : (guide : Guide) (ss : List MuxService) → DoAscend ss → Rise (sdt_services guide (map kind_of ss))
+own_rise guide [] up = tt
+own_rise guide (s ∷ ss) up = (
+  all_to_map (λ (t : SdtService). s.service < t.service) (named_service guide) (map kind_of ss) (all_to_map (λ (k : ServiceKind). s.service < k.service) kind_of ss up.0),
+  own_rise guide ss up.1,
+)
+
+remote_rise : (guide : Guide) (ss : List RemoteService) → DoCome has_lower_id ss → Rise (sdt_services guide (map remote_kind ss))
+remote_rise guide [] up = tt
+remote_rise guide (s ∷ ss) up = (
+  all_to_map (λ (t : SdtService). s.service < t.service) (named_service guide) (map remote_kind ss)
+      (all_to_map (λ (k : ServiceKind). s.service < k.service) remote_kind ss (all_map (λ (t : RemoteService). has_lower_id s t ≡ true) (λ (t : RemoteService). s.service < t.service) (λ t lower. less s.service t.service lower) ss up.0)),
+  remote_rise guide ss up.1,
+)
+  where
+    less : (a b : ℕ) → nat_lt a b ≡ true → a < b
+    less a b e = grind (arith, nat_tests)
+
+put_first : (s : SdtService) (ss : List SdtService) → AllByRecursion (λ (t : SdtService). s.service < t.service) ss → with_service s ss ≡ s ∷ ss
+put_first s [] all = refl
+put_first s (t ∷ ts) all =
+    ap (λ (b : Bool). if b then s ∷ t ∷ ts else if s.service == t.service then s ∷ ts else t ∷ with_service s ts) (less s.service t.service all.0)
+  where
+    less : (a b : ℕ) → a < b → nat_lt a b ≡ true
+    less a b lt = grind (arith, nat_tests)
+
+in_order : (ss : List SdtService) → Rise ss → by_service ss ≡ ss
+in_order [] up = refl
+in_order (s ∷ ss) up = ap (with_service s) (in_order ss up.1) ∙ put_first s ss up.0
+
+pub own_in_order : (mux : Mux) (guide : Guide) → DoAscend mux.services → by_service (sdt_services guide (own_kinds mux)) ≡ sdt_services guide (own_kinds mux)
+own_in_order mux guide up = in_order (sdt_services guide (own_kinds mux)) (own_rise guide mux.services up)
+
+pub remote_in_order : (guide : Guide) (other : Other) → DoCome has_lower_id other.services → by_service (sdt_services guide (remote_kinds other)) ≡ sdt_services guide (remote_kinds other)
+remote_in_order guide other up = in_order (sdt_services guide (remote_kinds other)) (remote_rise guide other.services up)
+
+-- ---- how streams are sent
+
+-- the entry of each other stream is found by its ids
+pub cables_said : (os : List Other) → DoCome comes_before os → AllByRecursion (λ (o : Other). cable_in o.stream o.original (map other_stream os) ≡ o.cable) os
+cables_said [] up = tt
+cables_said (o ∷ os) up = (
+  ap (λ (b : Bool). if b then o.cable else cable_in o.stream o.original (map other_stream os)) (own o.stream o.original),
+  all_two (λ (p : Other). comes_before o p ≡ true) (λ (p : Other). cable_in p.stream p.original (map other_stream os) ≡ p.cable)
+      (λ (p : Other). cable_in p.stream p.original (map other_stream (o ∷ os)) ≡ p.cable)
+      (λ p before said. ap (λ (b : Bool). if b then o.cable else cable_in p.stream p.original (map other_stream os)) (later o.stream o.original p.stream p.original before) ∙ said)
+      os up.0 (cables_said os up.1),
+)
+  where
+    own : (a b : ℕ) → (a == a && b == b) ≡ true
+    own a b = grind (arith, nat_tests)
+
+    later : (a b c d : ℕ) → (nat_lt a c || (a == c && nat_lt b d)) ≡ true → (a == c && b == d) ≡ false
+    later a b c d before = grind (arith, nat_tests)

@@ -1,5 +1,0 @@
-pub mod ReadBack
-pub mod Names
-pub mod Shown
-pub mod Heard
-pub mod Last

@@ -1,4 +1,0 @@
-pub mod Shown
-pub mod Heard
-pub mod Last
-pub mod Laws

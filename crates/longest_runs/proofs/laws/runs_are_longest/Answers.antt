@@ -1,5 +1,0 @@
-use Rattle.longest_runs.proofs.RunFacts.{are_longest}
-use Rattle.longest_runs.proofs.laws.runs_are_longest.Goals as goal
-
-pub returns : goal.returns
-returns g c = λ size limit things each. are_longest size limit things each

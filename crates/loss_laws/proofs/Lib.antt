@@ -1,0 +1,16 @@
+pub mod Lanes
+pub mod Covers
+pub mod ByParts
+pub mod ThinnedAirHeard
+pub mod Coherent
+pub mod Exact
+pub mod Times
+pub mod Views
+pub mod Dones
+pub mod Alike
+pub mod ThinnedJournalHeard
+pub mod Known
+pub mod Held
+pub mod Window
+pub mod SinceParts
+pub mod Thinned

@@ -1,9 +1,0 @@
-use Rattle.std.proofs.Common.{arith}
-use Rattle.std.proofs.lemmas.Grind.{common_steps}
-use Rattle.nit_sdt.proofs.Networks.{length-descriptors}
-use Rattle.nit_sdt.proofs.nit.put_stream.Goals as goal
-
-pub returns : goal.returns
-returns c =
-    let size = length-descriptors c.args.stream.now.cable c.args.stream.now.services in
-    grind (arith, common_steps, size)

@@ -1,3 +1,0 @@
-pub mod Nit
-pub mod Sdt
-pub mod Rows

@@ -1,2 +1,0 @@
-pub mod PartTexts
-mod Rows

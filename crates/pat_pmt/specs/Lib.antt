@@ -1,3 +1,0 @@
-pub mod Pat
-pub mod Pmt
-pub mod Rows

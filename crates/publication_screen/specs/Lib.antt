@@ -1,4 +1,0 @@
-pub mod Screen
-pub mod Shown
-pub mod Laws
-mod Rows

@@ -1,3 +1,0 @@
-pub mod Packs
-pub mod Steps
-pub mod Sendings

@@ -1,3 +1,0 @@
-pub mod Queue
-pub mod Packing
-pub mod Sending

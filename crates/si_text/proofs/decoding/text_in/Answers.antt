@@ -1,6 +1,0 @@
-use Rattle.std.proofs.Common.{rules}
-use Rattle.si_text.proofs.RoundTrip.{plain_read}
-use Rattle.si_text.proofs.decoding.text_in.Goals as goal
-
-pub returns-then-is_all_plain : goal.returns-then-is_all_plain
-returns-then-is_all_plain c = plain_read c.args.bytes.now (λ t. t.now) c.utf8_in.result (search rules) c.utf8_in.ensures

@@ -1,8 +1,0 @@
-use Rattle.std.proofs.Common.{◌∙◌, ap, sym}
-use Rattle.si_text.specs.Control.{all_printing}
-use Rattle.si_text.proofs.PlainFacts.{printing_clean}
-use Rattle.si_text.proofs.txt.has_control.Goals as goal
-
-pub returns-then-is_all_printing : goal.returns-then-is_all_printing
-returns-then-is_all_printing c =
-    sym (printing_clean c.args.text.now (sym (c.is_all_printing.ensures ∙ ap all_printing c.as_bytes.ensures.value) ∙ c.if-is_all_printing.true))

@@ -1,6 +1,0 @@
-pub mod Coding
-pub mod Control
-pub mod Stores
-pub mod Decoding
-pub mod Cutting
-pub mod Rows

@@ -1,0 +1,198 @@
+-- The entry of an event shows that event.
+use Rattle.std.proofs.Common.{◌≡◌, ℕ, suc, ◌-◌, ◌<◌, Bool, List, [], ◌∷◌, ◌++◌, length, map, Option, Some, None, IfSome, refl, sym, ap, ◌∙◌, append_assoc, arith, if◌then◌else◌}
+use Rattle.std.specs.Option.{option_or}
+use Rattle.std.specs.List.{flat_map, AllByRecursion}
+use Rattle.std.proofs.lemmas.Grind.{flat_map-append}
+use Rattle.std.proofs.lemmas.List.{append-nil}
+use Rattle.std.proofs.lemmas.Slice.Eq.{bytes_eq-Decides}
+use Rattle.guide_model.specs.Coding.{coded_text}
+use Rattle.guide_model.specs.Cutting.{pieces}
+use Rattle.guide_model.specs.Decoding.{IsKept}
+use Rattle.guide_model.specs.declared.shown.Shown.{Shown}
+use Rattle.guide_model.specs.declared.shown.Shown.TheVariants.{Text}
+use Rattle.guide_model.proofs.PieceFacts.{pieces-join, pieces-kept}
+use Rattle.guide_model.proofs.RoundTrip.{decoded-coded}
+use Rattle.guide_model.specs.declared.event.Event.{Event}
+use Rattle.guide_model.specs.declared.event.Genre.{Genre}
+use Rattle.guide_model.specs.declared.event.Rating.{Rating}
+use Rattle.descriptors.specs.declared.descriptors.RawDesc.{RawDesc}
+use Rattle.descriptors.specs.declared.short_event.ShortEvent.{ShortEvent}
+use Rattle.descriptors.specs.declared.extended_event.ExtendedPiece.{ExtendedPiece}
+use Rattle.descriptors.specs.Descriptors.{descriptor_bytes}
+use Rattle.descriptors.specs.ShortEvent.{short_event_body, short_event_in}
+use Rattle.descriptors.specs.ExtendedEvent.{extended_event_body}
+use Rattle.descriptors.specs.Content.{content_body, content_in, HasNibbles}
+use Rattle.descriptors.specs.ParentalRating.{parental_rating_body, parental_rating_in, HasThreeLetters}
+use Rattle.descriptors.specs.EventDescriptors.{numbered, event_descriptors, content_of, rating_of}
+use Rattle.descriptors.proofs.EventEntries.{content-reads_back, parental_rating-reads_back}
+use Rattle.descriptors.proofs.Fields.{short_event-reads_back, extended_event-reads_back}
+use Rattle.descriptors.proofs.Pieces.{few_pieces}
+use Rattle.table_bodies.specs.First.{first_in}
+use Rattle.table_bodies.specs.ShownEvent as shows
+use Rattle.table_bodies.specs.Eit.{IsTyped, IsCodable, shown_event}
+
+-- ---- the descriptors of an event
+
+abbrev short_value : Event → ShortEvent
+short_value e = record { language = e.language; name = Text e.name; short = Text e.short }
+
+abbrev short_desc : Event → RawDesc
+short_desc e = record { tag = 0x4D; body = short_event_body (short_value e) }
+
+abbrev piece_desc : ℕ → ℕ → List ℕ → List ℕ → RawDesc
+piece_desc n last language piece = record { tag = 0x4E; body = extended_event_body (record { number = n; last = last; language = language; text = coded_text piece }) }
+
+abbrev piece_descs : ℕ → ℕ → List ℕ → List (List ℕ) → List RawDesc
+piece_descs n last language [] = []
+piece_descs n last language (piece ∷ more) = piece_desc n last language piece ∷ piece_descs (suc n) last language more
+
+abbrev genre_descs : List Genre → List RawDesc
+genre_descs [] = []
+genre_descs (g ∷ genres) = record { tag = 0x54; body = content_body (g ∷ genres) } ∷ []
+
+abbrev rating_descs : Option Rating → List RawDesc
+rating_descs None = []
+rating_descs (Some r) = record { tag = 0x55; body = parental_rating_body (r ∷ []) } ∷ []
+
+abbrev all_pieces : Event → List RawDesc
+all_pieces e = piece_descs 0 (length (pieces e.extended) - 1) e.language (pieces e.extended)
+
+abbrev pub descs_of : Event → List RawDesc
+descs_of e = short_desc e ∷ (all_pieces e ++ (genre_descs e.genres ++ rating_descs e.rating))
+
+-- ---- their bytes
+
+piece-bytes : (n last : ℕ) (language : List ℕ) (ps : List (List ℕ)) → numbered n last language ps ≡ flat_map descriptor_bytes (piece_descs n last language ps)
+piece-bytes n last language [] = refl
+piece-bytes n last language (p ∷ ps) = ap (λ (xs : List ℕ). descriptor_bytes (piece_desc n last language p) ++ xs) (piece-bytes (suc n) last language ps)
+
+genre-bytes : (genres : List Genre) → content_of genres ≡ flat_map descriptor_bytes (genre_descs genres)
+genre-bytes [] = refl
+genre-bytes (g ∷ genres) = sym (append-nil (content_of (g ∷ genres)))
+
+rating-bytes : (r : Option Rating) → rating_of r ≡ flat_map descriptor_bytes (rating_descs r)
+rating-bytes None = refl
+rating-bytes (Some r) = sym (append-nil (rating_of (Some r)))
+
+pub desc-bytes : (e : Event) → event_descriptors e ≡ flat_map descriptor_bytes (descs_of e)
+desc-bytes e =
+    let short = descriptor_bytes (short_desc e) in
+    let extended = flat_map descriptor_bytes (all_pieces e) in
+    let genres = flat_map descriptor_bytes (genre_descs e.genres) in
+    let rating = flat_map descriptor_bytes (rating_descs e.rating) in
+    ap (λ (xs : List ℕ). short ++ xs ++ content_of e.genres ++ rating_of e.rating) (piece-bytes 0 (length (pieces e.extended) - 1) e.language (pieces e.extended))
+    ∙ ap (λ (xs : List ℕ). short ++ extended ++ xs ++ rating_of e.rating) (genre-bytes e.genres)
+    ∙ ap (λ (xs : List ℕ). short ++ extended ++ genres ++ xs) (rating-bytes e.rating)
+    ∙ append_assoc (short ++ extended) genres rating
+    ∙ append_assoc short extended (genres ++ rating)
+    ∙ ap (λ (xs : List ℕ). short ++ (extended ++ xs)) (sym (flat_map-append descriptor_bytes (genre_descs e.genres) (rating_descs e.rating)))
+    ∙ ap (λ (xs : List ℕ). short ++ xs) (sym (flat_map-append descriptor_bytes (all_pieces e) (genre_descs e.genres ++ rating_descs e.rating)))
+
+-- ---- what they show
+
+short-shown : (e : Event) → IsTyped e → shows.short_of (descs_of e) ≡ short_value e
+short-shown e q =
+    ap (λ o. shows.short_or_none (option_or o (first_in 0x4D short_event_in (all_pieces e ++ (genre_descs e.genres ++ rating_descs e.rating)))))
+    (short_event-reads_back (short_value e) (record { language = q.language; name = decoded-coded e.name q.name; short = decoded-coded e.short q.short }))
+
+content-behind : (n last : ℕ) (language : List ℕ) (ps : List (List ℕ)) (ds : List RawDesc) → first_in 0x54 content_in (piece_descs n last language ps ++ ds) ≡ first_in 0x54 content_in ds
+content-behind n last language [] ds = refl
+content-behind n last language (p ∷ ps) ds = content-behind (suc n) last language ps ds
+
+content-first : (genres : List Genre) (r : Option Rating) → AllByRecursion HasNibbles genres → shows.genres_or_none (first_in 0x54 content_in (genre_descs genres ++ rating_descs r)) ≡ genres
+content-first [] None fit = refl
+content-first [] (Some r) fit = refl
+content-first (g ∷ genres) r fit = ap (λ o. shows.genres_or_none (option_or o (first_in 0x54 content_in (rating_descs r)))) (content-reads_back (g ∷ genres) fit)
+
+rating-behind : (n last : ℕ) (language : List ℕ) (ps : List (List ℕ)) (ds : List RawDesc) → first_in 0x55 parental_rating_in (piece_descs n last language ps ++ ds) ≡ first_in 0x55 parental_rating_in ds
+rating-behind n last language [] ds = refl
+rating-behind n last language (p ∷ ps) ds = rating-behind (suc n) last language ps ds
+
+rating-first : (genres : List Genre) (r : Option Rating) → IfSome r HasThreeLetters → shows.first_rating (first_in 0x55 parental_rating_in (genre_descs genres ++ rating_descs r)) ≡ r
+rating-first [] None three = refl
+rating-first (g ∷ genres) None three = refl
+rating-first [] (Some r) three = ap (λ o. shows.first_rating (option_or o None)) (parental_rating-reads_back (r ∷ []) (three, tt))
+rating-first (g ∷ genres) (Some r) three = ap (λ o. shows.first_rating (option_or o None)) (parental_rating-reads_back (r ∷ []) (three, tt))
+
+pieces-shown : (n last : ℕ) (language : List ℕ) (ps : List (List ℕ)) (ds : List RawDesc) → last < 16 → length language ≡ 3
+    → shows.pieces_in language (piece_descs n last language ps ++ ds) ≡ map coded_text ps ++ shows.pieces_in language ds
+pieces-shown n last language [] ds lt three = refl
+pieces-shown n last language (p ∷ ps) ds lt three =
+    let piece : ExtendedPiece = record { number = n; last = last; language = language; text = coded_text p } in
+    ap (λ o. shows.text_if language o ++ shows.pieces_in language (piece_descs (suc n) last language ps ++ ds)) (extended_event-reads_back piece (record { last = lt; language = three }))
+    ∙ ap (λ (b : Bool). (if b then coded_text p ∷ [] else []) ++ shows.pieces_in language (piece_descs (suc n) last language ps ++ ds)) ((bytes_eq-Decides language language).1 refl)
+    ∙ ap (λ xs. coded_text p ∷ xs) (pieces-shown (suc n) last language ps ds lt three)
+
+no-pieces : (language : List ℕ) (genres : List Genre) (r : Option Rating) → shows.pieces_in language (genre_descs genres ++ rating_descs r) ≡ []
+no-pieces language [] None = refl
+no-pieces language [] (Some r) = refl
+no-pieces language (g ∷ genres) None = refl
+no-pieces language (g ∷ genres) (Some r) = refl
+
+texts-shown : (ps : List (List ℕ)) → AllByRecursion IsKept ps → shows.texts_of (map coded_text ps) ≡ Some ps
+texts-shown [] kept = refl
+texts-shown (p ∷ ps) kept =
+    ap (λ (s : Shown). shows.with_text s (shows.texts_of (map coded_text ps))) (decoded-coded p kept.0)
+    ∙ ap (λ o. shows.with_text (Text p) o) (texts-shown ps kept.1)
+
+extended-shown : (e : Event) → IsCodable e → IsTyped e → shows.joined (shows.pieces_in e.language (descs_of e)) ≡ Text e.extended
+extended-shown e p q =
+    let ps = pieces e.extended in
+    let last : length ps - 1 < 16 = omega (arith, few_pieces e.extended q.extended.utf8 p.limits.extended) in
+    let all : shows.pieces_in e.language (descs_of e) ≡ map coded_text ps =
+    pieces-shown 0 (length ps - 1) e.language ps (genre_descs e.genres ++ rating_descs e.rating) last q.language
+    ∙ ap (λ (xs : List (List ℕ)). map coded_text ps ++ xs) (no-pieces e.language e.genres e.rating)
+    ∙ append-nil (map coded_text ps) in
+    ap shows.joined all
+    ∙ ap (λ o. shows.joined_as o (map coded_text ps)) (texts-shown ps (pieces-kept e.extended q.extended))
+    ∙ ap (λ (xs : List ℕ). Text xs) (pieces-join e.extended q.extended.utf8)
+
+pub event-shown : (e : Event) → IsCodable e → IsTyped e → AllByRecursion HasNibbles e.genres → shows.event_of e.id e.start.0 e.seconds (descs_of e) ≡ shown_event e
+event-shown e p q levels =
+    let start = e.start in
+    let genres : shows.genres_of (descs_of e) ≡ e.genres = ap shows.genres_or_none (content-behind 0 (length (pieces e.extended) - 1) e.language (pieces e.extended) (genre_descs e.genres ++ rating_descs e.rating)) ∙ content-first e.genres e.rating levels in
+    let rating : shows.rating_of (descs_of e) ≡ e.rating = ap shows.first_rating (rating-behind 0 (length (pieces e.extended) - 1) e.language (pieces e.extended) (genre_descs e.genres ++ rating_descs e.rating)) ∙ rating-first e.genres e.rating q.rating in
+    ap (λ (s : ShortEvent). record {
+      id = e.id;
+      start = start;
+      seconds = e.seconds;
+      language = s.language;
+      name = s.name;
+      short = s.short;
+      extended = shows.joined (shows.pieces_in s.language (descs_of e));
+      rating = shows.rating_of (descs_of e);
+      genres = shows.genres_of (descs_of e);
+    }) (short-shown e q)
+    ∙ ap (λ (x : Shown). record {
+      id = e.id;
+      start = start;
+      seconds = e.seconds;
+      language = e.language;
+      name = Text e.name;
+      short = Text e.short;
+      extended = x;
+      rating = shows.rating_of (descs_of e);
+      genres = shows.genres_of (descs_of e);
+    }) (extended-shown e p q)
+    ∙ ap (λ (r : Option Rating). record {
+      id = e.id;
+      start = start;
+      seconds = e.seconds;
+      language = e.language;
+      name = Text e.name;
+      short = Text e.short;
+      extended = Text e.extended;
+      rating = r;
+      genres = shows.genres_of (descs_of e);
+    }) rating
+    ∙ ap (λ (gs : List Genre). record {
+      id = e.id;
+      start = start;
+      seconds = e.seconds;
+      language = e.language;
+      name = Text e.name;
+      short = Text e.short;
+      extended = Text e.extended;
+      rating = e.rating;
+      genres = gs;
+    }) genres

@@ -1,0 +1,11 @@
+pub mod Steps
+pub mod EntryWritten
+pub mod Whole
+pub mod Programs
+pub mod Words
+pub mod Networks
+pub mod Services
+pub mod Joined
+pub mod EventWritten
+pub mod ReadBack
+pub mod Looked

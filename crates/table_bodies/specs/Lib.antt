@@ -1,0 +1,13 @@
+pub mod Entries
+pub mod First
+pub mod Laws
+pub mod EntryRows
+pub mod Pat
+pub mod Pmt
+pub mod ProgramRows
+pub mod Nit
+pub mod Sdt
+pub mod NetworkRows
+pub mod ShownEvent
+pub mod Eit
+pub mod EventRows

@@ -1,0 +1,84 @@
+-- The body of a section of a program map table, both ways (ISO/IEC 13818-1, 2.4.4.8).
+use Rattle.std.specs.Prelude.{◌≡◌, ℕ, ◌+◌, ◌%◌, ◌<◌, List, [], ◌∷◌, ◌++◌, length, slice_index, Bool}
+use Rattle.std.specs.Prelude.{Option, Some, None, IfSome, is_some, option_and_then}
+use Rattle.std.specs.List.{flat_map, AllByRecursion}
+use Rattle.si_base.specs.Fields.{two, two_at}
+use Rattle.guide_model.specs.declared.stream.Component.{Component}
+use Rattle.descriptors.specs.declared.descriptors.RawDesc.{RawDesc}
+use Rattle.descriptors.specs.Languages.{iso_639_language, languages_in}
+use Rattle.table_bodies.specs.Entries.{TableEntry, entry_bytes, Reads, made, split_in, value_in, entries_in}
+use Rattle.table_bodies.specs.First.{first_in}
+use Rattle.table_bodies.specs.declared.pmt.Pmt.{Pmt}
+
+-- ---- written
+
+-- the descriptors of a component: its language, where it has one
+abbrev pub language_descriptors : Option (List ℕ) → List ℕ
+language_descriptors None = []
+language_descriptors (Some language) = iso_639_language (language ∷ [])
+
+-- stream_type 8, reserved 3, elementary_PID 13; reserved 4; all reserved bits are 1
+abbrev pub component_entry : Component → TableEntry
+component_entry c = record { fields = c.stream_type ∷ two (0xE000 + c.pid); bits = 15; descriptors = language_descriptors c.language }
+
+abbrev pub component_bytes : Component → List ℕ
+component_bytes c = entry_bytes (component_entry c)
+
+-- the PID fits its 13 bits
+abbrev pub HasPid : Component → Type 0
+HasPid c = c.pid < 8192
+
+-- reserved 3, PCR_PID 13, reserved 4, program_info_length 12, which is 0
+abbrev pub program_entry : ℕ → TableEntry
+program_entry pcr_pid = record { fields = two (0xE000 + pcr_pid); bits = 15; descriptors = [] }
+
+abbrev pub pmt_body : Pmt → List ℕ
+pmt_body p = entry_bytes (program_entry p.pcr_pid) ++ flat_map component_bytes p.components
+
+-- ---- read
+
+-- the first language of the first ISO_639_language
+abbrev pub first_language : Option (List (List ℕ)) → Option (List ℕ)
+first_language (Some (language ∷ languages)) = Some language
+first_language (Some []) = None
+first_language None = None
+
+abbrev pub language_of : List RawDesc → Option (List ℕ)
+language_of descs = first_language (first_in 0x0A languages_in descs)
+
+-- what an entry says of a component
+abbrev pub component_of : List ℕ → List RawDesc → Component
+component_of fields descs = record { stream_type = slice_index fields 0; pid = two_at 1 fields % 8192; language = language_of descs }
+
+abbrev pub component_in : Reads Component
+component_in fields descs = Some (component_of fields descs)
+
+-- PCR_PID of the entry of the program, whose descriptors are passed over
+abbrev pub pcr_pid_in : Reads ℕ
+pcr_pid_in fields descs = Some (two_at 0 fields % 8192)
+
+abbrev pub pmt_with : ℕ → List Component → Pmt
+pmt_with pcr_pid components = record { pcr_pid = pcr_pid; components = components }
+
+-- An entry of the program and entries of components, whatever their reserved bits; none where the body is no such entries.
+abbrev pub pmt_in : List ℕ → Option Pmt
+pmt_in body = option_and_then (λ parts. made pmt_with (value_in pcr_pid_in parts.0) (entries_in 3 component_in parts.1)) (split_in 2 body)
+
+-- whether bytes are such a body
+abbrev pub is_pmt_body : List ℕ → Bool
+is_pmt_body body = is_some (pmt_in body)
+
+-- ---- laws
+
+-- each field has its width, and a language three letters
+pub record FitsComponent (c : Component) : Type 0 where
+  pub pid : HasPid c
+  pub language : IfSome c.language (λ language. length language ≡ 3)
+
+pub record FitsPmt (p : Pmt) : Type 0 where
+  pub pcr_pid : p.pcr_pid < 8192
+  pub components : AllByRecursion FitsComponent p.components
+
+-- Reading a written body gives its value back.
+abbrev pub PmtReadsBack : Type 0
+PmtReadsBack = (p : Pmt) → FitsPmt p → pmt_in (pmt_body p) ≡ Some p

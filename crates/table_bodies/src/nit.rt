@@ -1,0 +1,241 @@
+// The network information table.
+ghost use Rattle.std.specs.Prelude.{◌≡◌, ◌<◌, ◌≤◌, ◌++◌, length, sum_by, is_some, option_map, IfOk, IfSome, OnOk};
+ghost use Rattle.std.specs.List.{All, flat_map};
+ghost use Rattle.std.proofs.Common.{lit<};
+ghost use Rattle.guide_model.specs.Decoding.{shown_bytes};
+ghost use Rattle.descriptors.specs.CableDelivery.{FitsCable};
+ghost use Rattle.descriptors.specs.NetworkName.{network_name};
+ghost use Rattle.table_bodies.specs.Entries.{entry_bytes};
+ghost use Rattle.table_bodies.specs.Nit.{FitsStream, bare_entry, cable_descriptors, cable_of, cable_size, loop_in, name_of, nit_body, nit_in, services_of, stream_bytes, stream_in, stream_size};
+
+use crate::{EntryKind, RawEntry, are_entries, read_entries, split_entry};
+use descriptors::{
+    RawDesc, ServiceKinds, no_text, read_cable_delivery_system, read_network_name,
+    read_service_list, write_cable_delivery_system, write_network_name, write_service_list,
+};
+use guide_model::{Cable, Shown};
+use si_base::{Bytes, Items};
+use std::alloc::{AllocError, Global};
+
+/// A transport stream of a network: transport_stream_id and original_network_id, how it is sent by cable where that is told, and its
+/// services.
+#[derive(Drop)]
+pub struct NitStream {
+    pub stream: u16,
+    pub original: u16,
+    pub cable: Option<Cable>,
+    pub services: ServiceKinds,
+}
+
+/// Streams in the order in which they stand.
+pub type NitStreams = Items<NitStream>;
+
+/// What a network information table holds: the name of the network and its transport streams.
+#[derive(Drop)]
+pub struct Nit {
+    pub name: Shown,
+    pub streams: NitStreams,
+}
+
+/// The body of a section of the network information table (EN 300 468, 5.2.1): a network_name_descriptor, and for each stream its
+/// cable_delivery_system_descriptor where it has one and its service_list_descriptor.
+///
+/// It needs a name of at most 255 bytes, cables whose digits fit, at most 85 services a stream, and streams of less than 4,096 bytes
+/// together, so that each length fits its field.
+pub fn write_nit(alloc: Global, nit: &Nit) -> Result<Bytes, AllocError>
+    requires name { length (shown_bytes nit.now.name) ≤ 255 }
+    requires streams { All FitsStream nit.now.streams }
+    requires within { sum_by stream_size nit.now.streams < 4096 }
+    ensures { IfOk result (λ body. body ≡ nit_body nit.now) }
+{
+    let mut streams = Vec::new(alloc);
+    put_streams(nit.streams.as_slice(), &mut streams)?;
+    let mut out = Vec::new(alloc);
+    put_name(&nit.name, &mut out)?;
+    out.extend_from_slice(&(0xF000 + streams.len() as u16).to_be_bytes())?;
+    out.extend_from_slice(&streams)?;
+    Ok(Items::of(out))
+}
+
+// Appends the name behind its length; want of memory may leave a part of it.
+fn put_name(name: &Shown, out: &mut Vec<u8>) -> Result<(), AllocError>
+    requires { length (shown_bytes name.now) ≤ 255 }
+    ensures { OnOk result (out.new.items ≡ out.old.items ++ entry_bytes (bare_entry (network_name name.now))) }
+{
+    let len = 2 + name.coded_len() as u16;
+    out.extend_from_slice(&(0xF000 + len).to_be_bytes())?;
+    write_network_name(name, out)
+}
+
+// Appends the entries of streams; want of memory may leave a part of them.
+fn put_streams(streams: &[NitStream], out: &mut Vec<u8>) -> Result<(), AllocError>
+    requires { All FitsStream streams.now }
+    ensures { OnOk result (out.new.items ≡ out.old.items ++ flat_map stream_bytes streams.now) }
+{
+    for stream in streams {
+        put_stream(stream, out)?;
+    }
+    Ok(())
+}
+
+// Appends the entry of a stream; want of memory may leave a part of it.
+fn put_stream(stream: &NitStream, out: &mut Vec<u8>) -> Result<(), AllocError>
+    requires { FitsStream stream.now }
+    ensures { OnOk result (out.new.items ≡ out.old.items ++ stream_bytes stream.now) }
+{
+    let list = 2 + 3 * stream.services.len() as u16;
+    out.extend_from_slice(&stream.stream.to_be_bytes())?;
+    out.extend_from_slice(&stream.original.to_be_bytes())?;
+    out.extend_from_slice(&(0xF000 + cable_len(&stream.cable) + list).to_be_bytes())?;
+    put_cable(&stream.cable, out)?;
+    write_service_list(stream.services.as_slice(), out)
+}
+
+// The bytes of the descriptor of a cable.
+fn cable_len(cable: &Option<Cable>) -> u16
+    ensures { result ≡ cable_size cable.now }
+{
+    match cable {
+        None => 0,
+        Some(_) => 13,
+    }
+}
+
+// Appends the descriptor of a cable, where there is one; want of memory changes nothing.
+fn put_cable(cable: &Option<Cable>, out: &mut Vec<u8>) -> Result<(), AllocError>
+    requires { IfSome cable.now FitsCable }
+    ensures { OnOk result (out.new.items ≡ out.old.items ++ cable_descriptors cable.now) }
+{
+    match cable {
+        None => Ok(()),
+        Some(cable) => write_cable_delivery_system(cable, out),
+    }
+}
+
+/// What the body of a section of the network information table says, or `None` exactly where it ends within an entry, a length runs
+/// past the end, a descriptor runs past the end of its loop, or bytes are left over. Reserved bits may have any value
+/// (EN 300 468, 5.2.1).
+///
+/// The name is that of the first network_name_descriptor; without one it is empty. A stream has the cable of its first
+/// cable_delivery_system_descriptor and the services of its first service_list_descriptor whose body fits; without a list it has none.
+pub fn read_nit(alloc: Global, body: &[u8]) -> Result<Option<Nit>, AllocError>
+    ensures { IfOk result (λ read. read ≡ nit_in body.now) }
+{
+    let Some((network, behind)) = split_entry(0, body) else {
+        return Ok(None);
+    };
+    let Some(descs) = network.descriptors(alloc)? else {
+        return Ok(None);
+    };
+    let Some(entries) = split_loop(behind) else {
+        return Ok(None);
+    };
+    let Some(streams) = read_entries::<StreamEntries>(alloc, entries)? else {
+        return Ok(None);
+    };
+    let name = name_of(alloc, descs.as_slice())?;
+    Ok(Some(Nit { name, streams }))
+}
+
+/// Whether these bytes are the body of a section of the network information table, as `read_nit` reads it (EN 300 468, 5.2.1). It takes
+/// no memory.
+pub fn is_nit_body(body: &[u8]) -> bool
+    ensures { result ≡ is_some (nit_in body.now) }
+{
+    let Some((network, behind)) = split_entry(0, body) else {
+        return false;
+    };
+    match split_loop(behind) {
+        Some(streams) => network.has_descriptors() && are_entries::<StreamEntries>(streams),
+        None => false,
+    }
+}
+
+// The bytes after a length of 12 bits; none where they are not as many as it says.
+fn split_loop(bytes: &[u8]) -> Option<&[u8]>
+    ensures { option_map (λ entries. entries.now) result ≡ loop_in bytes.now }
+{
+    let [high, low, entries @ ..] = bytes else {
+        return None;
+    };
+    let length = 256 * u16::from(*high) + u16::from(*low);
+    if entries.len() != (length % 4096) as usize {
+        return None;
+    }
+    Some(entries)
+}
+
+// The entries of streams.
+struct StreamEntries;
+
+impl EntryKind for StreamEntries {
+    type Value = NitStream;
+
+    const SIZE: usize = 4;
+
+    ghost SIZE = { 4 };
+
+    ghost value_of = { stream_in };
+
+    fn read(
+        alloc: Global,
+        entry: &RawEntry,
+        descs: &[RawDesc],
+    ) -> Result<Option<NitStream>, AllocError> {
+        let services = services_of(alloc, descs)?;
+        Ok(Some(NitStream {
+            stream: entry.two(0),
+            original: entry.two(2),
+            cable: cable_of(descs)?,
+            services,
+        }))
+    }
+
+    fn is_read(_entry: &RawEntry) -> bool {
+        true
+    }
+
+    ghost is_narrow = { lit< tt };
+}
+
+// The first name.
+fn name_of(alloc: Global, descs: &[RawDesc]) -> Result<Shown, AllocError>
+    ensures { IfOk result (λ name. name ≡ name_of descs.now) }
+{
+    for desc in descs {
+        if desc.tag == 0x40 {
+            if let Some(name) = read_network_name(alloc, desc.body.as_slice())? {
+                return Ok(name);
+            }
+        }
+    }
+    no_text(alloc)
+}
+
+// The first cable that fits.
+fn cable_of(descs: &[RawDesc]) -> Result<Option<Cable>, AllocError>
+    ensures { IfOk result (λ cable. cable ≡ cable_of descs.now) }
+{
+    for desc in descs {
+        if desc.tag == 0x44 {
+            if let Some(cable) = read_cable_delivery_system(desc.body.as_slice())? {
+                return Ok(Some(cable));
+            }
+        }
+    }
+    Ok(None)
+}
+
+// The services of the first list that fits.
+fn services_of(alloc: Global, descs: &[RawDesc]) -> Result<ServiceKinds, AllocError>
+    ensures { IfOk result (λ services. services ≡ services_of descs.now) }
+{
+    for desc in descs {
+        if desc.tag == 0x41 {
+            if let Some(services) = read_service_list(alloc, desc.body.as_slice())? {
+                return Ok(services);
+            }
+        }
+    }
+    Ok(ServiceKinds::new(alloc))
+}

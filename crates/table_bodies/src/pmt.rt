@@ -1,0 +1,141 @@
+// The program map table.
+ghost use Rattle.std.specs.Prelude.{◌≡◌, ◌<◌, ◌++◌, List, ℕ, Option, length, is_some, IfOk, OnOk};
+ghost use Rattle.std.specs.List.{All, flat_map};
+ghost use Rattle.std.proofs.Common.{lit<};
+ghost use Rattle.guide_model.specs.declared.stream.Component.{Component};
+ghost use Rattle.table_bodies.specs.Pmt.{HasPid, component_bytes, component_in, language_descriptors, language_of, pmt_body, pmt_in};
+
+use crate::{EntryKind, RawEntry, are_entries, read_entries, split_entry};
+use descriptors::{RawDesc, read_iso_639_language, write_iso_639_language};
+use guide_model::{Component, Components};
+use si_base::{Bytes, Items};
+use std::alloc::{AllocError, Global};
+
+/// What a program map table holds: the PID of the program's clock reference (13 bits) and its components.
+#[derive(Drop)]
+pub struct Pmt {
+    pub pcr_pid: u16,
+    pub components: Components,
+}
+
+/// The body of a section of the program map table, without descriptors of the program (ISO/IEC 13818-1, 2.4.4.8). A component has an
+/// ISO_639_language_descriptor where it has a language. It needs PIDs below 8,192.
+pub fn write_pmt(alloc: Global, pmt: &Pmt) -> Result<Bytes, AllocError>
+    requires pcr_pid { pmt.now.pcr_pid < 8192 }
+    requires components { All HasPid pmt.now.components }
+    ensures { IfOk result (λ body. body ≡ pmt_body pmt.now) }
+{
+    let mut out = Vec::new(alloc);
+    out.extend_from_slice(&(0xE000 + pmt.pcr_pid).to_be_bytes())?;
+    out.extend_from_slice(&[0xF0, 0x00])?;
+    put_components(pmt.components.as_slice(), &mut out)?;
+    Ok(Items::of(out))
+}
+
+// Appends the entries of components; want of memory may leave a part of them.
+fn put_components(components: &[Component], out: &mut Vec<u8>) -> Result<(), AllocError>
+    requires { All HasPid components.now }
+    ensures { OnOk result (out.new.items ≡ out.old.items ++ flat_map component_bytes components.now) }
+{
+    for component in components {
+        put_component(component, out)?;
+    }
+    Ok(())
+}
+
+// Appends the entry of a component; want of memory may leave a part of it.
+fn put_component(component: &Component, out: &mut Vec<u8>) -> Result<(), AllocError>
+    requires { HasPid component.now }
+    ensures { OnOk result (out.new.items ≡ out.old.items ++ component_bytes component.now) }
+{
+    out.push(component.stream_type)?;
+    out.extend_from_slice(&(0xE000 + component.pid).to_be_bytes())?;
+    match component.language {
+        None => out.extend_from_slice(&[0xF0, 0x00]),
+        Some(language) => {
+            out.extend_from_slice(&[0xF0, 0x06])?;
+            write_iso_639_language(&[language], out)
+        }
+    }
+}
+
+/// What the body of a section of the program map table says, or `None` exactly where it ends within an entry, a length runs past the
+/// end, a descriptor runs past the end of its loop, or bytes are left over. Reserved bits may have any value, and descriptors of the
+/// program are passed over (ISO/IEC 13818-1, 2.4.4.8).
+///
+/// The language of a component is the first of its first ISO_639_language_descriptor whose body fits.
+pub fn read_pmt(alloc: Global, body: &[u8]) -> Result<Option<Pmt>, AllocError>
+    ensures { IfOk result (λ read. read ≡ pmt_in body.now) }
+{
+    let Some((program, behind)) = split_entry(2, body) else {
+        return Ok(None);
+    };
+    if !program.has_descriptors() {
+        return Ok(None);
+    }
+    let Some(components) = read_entries::<ComponentEntries>(alloc, behind)? else {
+        return Ok(None);
+    };
+    Ok(Some(Pmt {
+        pcr_pid: program.two(0) % 8192,
+        components,
+    }))
+}
+
+// The entries of components.
+struct ComponentEntries;
+
+impl EntryKind for ComponentEntries {
+    type Value = Component;
+
+    const SIZE: usize = 3;
+
+    ghost SIZE = { 3 };
+
+    ghost value_of = { component_in };
+
+    fn read(
+        alloc: Global,
+        entry: &RawEntry,
+        descs: &[RawDesc],
+    ) -> Result<Option<Component>, AllocError> {
+        Ok(Some(Component {
+            stream_type: entry.byte(0),
+            pid: entry.two(1) % 8192,
+            language: language_of(alloc, descs)?,
+        }))
+    }
+
+    fn is_read(_entry: &RawEntry) -> bool {
+        true
+    }
+
+    ghost is_narrow = { lit< tt };
+}
+
+// The first language of the first descriptor of languages that fits.
+fn language_of(alloc: Global, descs: &[RawDesc]) -> Result<Option<[u8; 3]>, AllocError>
+    ensures { IfOk result (λ language. language ≡ language_of descs.now) }
+{
+    for desc in descs {
+        if desc.tag == 0x0A {
+            if let Some(languages) = read_iso_639_language(alloc, desc.body.as_slice())? {
+                return Ok(languages.as_slice().first().copied());
+            }
+        }
+    }
+    Ok(None)
+}
+
+/// Whether these bytes are the body of a section of the program map table, as `read_pmt` reads it (ISO/IEC 13818-1, 2.4.4.8). It takes
+/// no memory.
+pub fn is_pmt_body(body: &[u8]) -> bool
+    ensures { result ≡ is_some (pmt_in body.now) }
+{
+    match split_entry(2, body) {
+        Some((program, components)) => {
+            program.has_descriptors() && are_entries::<ComponentEntries>(components)
+        }
+        None => false,
+    }
+}

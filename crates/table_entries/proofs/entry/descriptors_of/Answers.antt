@@ -1,8 +1,0 @@
-use Rattle.std.proofs.Common.{arith}
-use Rattle.table_entries.proofs.Written.{read_is}
-use Rattle.table_entries.proofs.entry.descriptors_of.Goals as goal
-
-pub returns : goal.returns
-returns c =
-    read_is c.args.bytes.now (λ i. omega (arith, c.type_inv.bytes i)) c.read_descriptors.result c.read_descriptors.ensures.some
-    c.read_descriptors.ensures.none

@@ -1,4 +1,0 @@
-pub mod Airs
-pub mod Rules
-pub mod Checking
-pub mod Laws

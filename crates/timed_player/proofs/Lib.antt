@@ -1,9 +1,0 @@
-pub mod Numbers
-pub mod Clocks
-pub mod Chosen
-pub mod Courses
-pub mod Queues
-pub mod Begun
-pub mod Plays
-pub mod TimedAirs
-pub mod Tallies

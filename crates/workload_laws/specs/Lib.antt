@@ -1,4 +1,0 @@
-pub mod Load
-pub mod Laws
-pub mod Journals
-pub mod Callers

@@ -1,3 +1,0 @@
-mod Stops
-pub mod Texts
-pub mod Journals
