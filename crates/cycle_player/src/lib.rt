@@ -1,21 +1,18 @@
 //! The player of cycles, at a bit rate or without one: for each swap one whole cycle of packets
-//! (ISO/IEC 13818-1, 2.4.3 and 2.4.4; EN 300 468, 5.1).
+//! (ISO/IEC 13818-1, 2.4.3 and 2.4.4; EN 300 468, 5.1 and 5.1.4; TR 101 290, 5.2).
 //!
-//! A `CyclePlayer` is a `Player` of `carousel_player`, or a `TimedPlayer` of `cycle_player`, and has
-//! the promises of the one that it is. `cycle_at` says which packets the cycle of a swap has,
-//! `AreMadeAt` which the cycles of an air have, and `IsAirAt` that they are an air of their airings.
-//! `SentOf` says of which air the bytes that a sink took are the first ones. At a rate the player
-//! counts the cycles that are short (`tally`, `tallies_tell`), and `time` gives the moment that its
-//! clock reads.
+//! A `CyclePlayer` is a `Player` of `carousel_player`, or a `TimedPlayer`, and has the promises of
+//! the one that it is. `cycle_at` says which packets the cycle of a swap has, `AreMadeAt` which the
+//! cycles of an air have, and `IsAirAt` that they are an air of their airings. `SentOf` says of
+//! which air the bytes that a sink took are the first ones. At a rate the player counts the cycles
+//! that are short (`tally`, `tallies_tell`), and `time` gives the moment that its clock reads.
 //!
-//! The player at a bit rate: for each swap one whole cycle of packets, with null packets (ISO/IEC
-//! 13818-1, 2.4.3 and 2.4.4; EN 300 468, 5.1.4; TR 101 290, 5.2).
-//!
-//! `swap` begins the cycle of one airing more, `next_packet` gives its next packet, and
-//! `play_cycle` writes the rest of it to a sink. The cycle is that of `cycle_timing` (`begun`): its
-//! sections stand in the packets that the plan of `cycle_timing` says, with null packets wherever
-//! no section is. TDT and TOT tell what the clock reads in the packet in which they begin. The
-//! clock goes on by the packets of each cycle, and is set forward by a swap with a later moment.
+//! A `TimedPlayer` is the player at a bit rate. `swap` begins the cycle of one airing more,
+//! `next_packet` gives its next packet, and `play_cycle` writes the rest of it to a sink. The cycle
+//! is that of `cycle_timing` (`begun`): its sections stand in the packets that the plan says, with
+//! null packets wherever no section is. TDT and TOT tell what the clock reads in the packet in
+//! which they begin. The clock goes on by the packets of each cycle, and is set forward by a swap
+//! with a later moment.
 //!
 //! What was handed out at the end of a cycle is an air of all airings so far. Between two sections
 //! of one sub-table lie packets that last 25 ms or more at the rate. The clock never goes back.

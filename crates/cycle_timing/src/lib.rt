@@ -1,15 +1,5 @@
-//! The plan of a cycle at a bit rate, made from sub-tables (EN 300 468, 5.1.4; TR 101 290, 5.2).
-//!
-//! `plan_timed` lists the sections of a cycle, numbers their sub-tables, makes the leads of a round
-//! and the body in turns, and chooses the span of a frame. Its plan has exactly the sections and
-//! the packets that `cycle_timing` says (`frames`), whatever versions and moment the airing has, and
-//! it says whether its span is right (`right`).
-//!
-//! Not promised: how long it takes, which is about n log n for n sections of the cycle and of its
-//! leads; and that it fails only where memory runs out. A cycle that may be too long to count its
-//! packets is refused as want of memory.
-//!
-//! The air of airings at a bit rate (EN 300 468, 5.1.4; TR 101 290, 5.2).
+//! The air of airings at a bit rate, and the plan of a cycle of it, made from sub-tables (EN 300
+//! 468, 5.1.4; TR 101 290, 5.2).
 //!
 //! A cycle is sent in frames (`air_timing`). At the front of each stands a lead, with the sections
 //! of the Fast sub-tables that have a turn (`specs/Leads.antt`); after it come the sections of the
@@ -17,6 +7,12 @@
 //! and table_id_extension (`specs/SubTables.antt`). Null packets stand wherever no section is, and
 //! TDT and TOT tell what the clock of the air reads in their packet (`specs/Cycle.antt`,
 //! `specs/Clock.antt`).
+//!
+//! `plan_timed` lists the sections of a cycle, numbers their sub-tables, makes the leads of a round
+//! and the body in turns, and chooses the span of a frame. Its plan has exactly the sections and
+//! the packets that these definitions say (`frames`), whatever versions and moment the airing has,
+//! and it says whether its span is right (`right`). A cycle that may be too long to count its
+//! packets is refused as want of memory.
 //!
 //! Such cycles are cycles of their airings, and make an air of them, so that all that is proved of
 //! what receivers hear of an air holds of this one (`timed_airs_are_airs`). Each section begins and
@@ -27,8 +23,9 @@
 //! (`timed_airs_repeat`). The clock never goes back, and keeps time to the second
 //! (`timed_airs_tell_the_time`).
 //!
-//! It has definitions and laws, and no other code. Not promised: that a sender sends at the rate,
-//! and how often schedules are sent.
+//! Not promised: that a sender sends at the rate, and how often schedules are sent; how long
+//! `plan_timed` takes, which is about n log n for n sections of the cycle and of its leads, and
+//! that it fails only where memory runs out.
 #![tactic(auto)]
 
 mod body;

@@ -1,4 +1,5 @@
-//! What the descriptors of all tables are made of (EN 300 468, 6.1).
+//! The descriptors of networks, streams, services, components and events, and what all descriptors
+//! are made of (EN 300 468, 6.1 and 6.2; ISO/IEC 13818-1, 2.6.18).
 //!
 //! [`read_descriptors`] gives the one list of descriptors that bytes are, or `None` where they are
 //! none (`descriptors_are_unique`). [`Coded`] writes a text, with or without its length, into room
@@ -6,22 +7,17 @@
 //! 8 bits. Bytes written after their length read back (`lengths_read_back`). [`no_text`] is the
 //! empty text, for a descriptor without one.
 //!
-//! The descriptors of networks, streams, services and components (EN 300 468, 6.2.13.1, 6.2.27,
-//! 6.2.33 and 6.2.35; ISO/IEC 13818-1, 2.6.18).
-//!
-//! These are network_name, service_list, cable_delivery_system, service and ISO_639_language. A
-//! writer appends the written form, or changes nothing where memory runs out. A reader gives
-//! exactly the value of a body, or `None` where it has none. Written descriptors read back
-//! (`written_descriptors_read_back`).
-//!
-//! The descriptors of an event: short_event, extended_event, content and parental_rating
-//! (EN 300 468, 6.2.9, 6.2.15, 6.2.28 and 6.2.37).
+//! The descriptors of networks, streams, services and components are network_name, service_list,
+//! cable_delivery_system, service and ISO_639_language (EN 300 468, 6.2.13.1, 6.2.27, 6.2.33 and
+//! 6.2.35; ISO/IEC 13818-1, 2.6.18). Those of an event are short_event, extended_event, content and
+//! parental_rating (EN 300 468, 6.2.9, 6.2.15, 6.2.28 and 6.2.37). The written form and the reading
+//! of a descriptor stand in one file of `specs/`.
 //!
 //! A writer appends the written form, or changes nothing where memory runs out. A reader gives
 //! exactly the value of a body, or `None` where it has none. Written descriptors read back
-//! (`written_descriptors_read_back`). `write_event_descriptors` appends all descriptors of an
-//! event. `event_len` is the size of an event's entry in a section, at most 1,338 bytes. The
-//! written form and the reading of a descriptor stand in one file of `specs/`.
+//! (`written_descriptors_read_back`, `written_event_descriptors_read_back`).
+//! `write_event_descriptors` appends all descriptors of an event. `event_len` is the size of an
+//! event's entry in a section, at most 1,338 bytes.
 #![tactic(auto)]
 
 mod cable_delivery;

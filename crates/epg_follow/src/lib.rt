@@ -1,5 +1,5 @@
-//! A run of `play --follow`: it plays a script as `play` does, and reports the journal as it
-//! happens.
+//! A run of `play --follow`, which plays a script as `play` does and reports the journal as it
+//! happens, and laws of going on after a kill.
 //!
 //! [`follow_item`] follows one line. A command is done at the desk, its entry is reported, and then
 //! a swap sends its cycle. An outcome is compared with the one that was reported last. A line at
@@ -14,45 +14,39 @@
 //! `specs/Course.antt`) and their cycles. Where the air failed, it has a proper front of the cycle
 //! of a last swap. Where the report failed, it has a proper front of what comes next, and the air
 //! has nothing of that. The report ends with the comment on the line that ended the script, at a
-//! bit rate the line of the rate, and the line of the fault. The input may have 2^64 - 2 bytes. With
-//! `--resume` all goes on from a checkpoint, as with `play`; a file that is none is refused before
-//! any step is done. What was sent is coherent, exact and spaced, also where a cycle was cut: with
-//! `--resume` it and the air before it in a row.
+//! bit rate the line of the rate, and the line of the fault. The input may have 2^64 - 2 bytes.
+//! With `--resume` all goes on from a checkpoint, as with `play`; a file that is none is refused
+//! before any step is done. What was sent is coherent, exact and spaced, also where a cycle was
+//! cut: with `--resume` it and the air before it in a row.
 //!
 //! A script without a line at fault is followed as `play` plays it (`following_is_playing`), and
 //! with `--keep-going` no line at fault ends one (`keeping_goes_on`).
 //!
-//! Tested by whole runs in `play_rows`: lines at fault of each kind, each write and each read that
-//! fails in turn, how much the air has after a failed write, the order of entries, cycles and reads,
-//! and journals that are folded and gone on from.
-//!
-//! Not promised: that `Memory` comes only where memory runs out; what stands at a moment within a
-//! run, but for what a run leaves whose report or air fails there (`epg_follow`); that anything is
-//! on the disk when it was written; how long the headend was silent between two airs.
-//!
-//! Laws of going on after a kill.
-//!
-//! It has no code. A run of `play --follow` may be killed at any moment. `Stands` says what its
-//! report and its air have then: whole pieces and a front of the next one, and the cycles of those
-//! pieces, but perhaps only a front of a last swap's cycle. The whole entries of the report
-//! (`whole_entries` of `script_notes`) are a script (`reports_are_scripts`). Folded, they make the
-//! very cycles that were on air (`folds_make_what_was_aired`), since cycles are determined by their
-//! airings (`made_cycles_are_one`). So the checkpoint is that of what stood, also where it was
-//! folded by parts (`parts_fold_as_the_whole`).
+//! A run may be killed at any moment. `Stands` says what its report and its air have then: whole
+//! pieces and a front of the next one, and the cycles of those pieces, but perhaps only a front of
+//! a last swap's cycle. The whole entries of the report (`whole_entries` of `script_notes`) are a
+//! script (`reports_are_scripts`). Folded, they make the very cycles that were on air
+//! (`folds_make_what_was_aired`), since cycles are determined by their airings
+//! (`made_cycles_are_one`). So the checkpoint is that of what stood, also where it was folded by
+//! parts (`parts_fold_as_the_whole`).
 //!
 //! A run from that checkpoint goes on (`runs_go_on`), and bridges the kill (`kills_are_bridged`):
 //! one journal and one air, of which only the last packets of the cut cycle are lost. Counters
-//! count on over these, and no version has two contents within 31 airings
-//! (`near_versions_differ`). Where at most 14 packets of each PID are lost, a strict receiver hears
-//! both runs as one air.
+//! count on over these, and no version has two contents within 31 airings (`near_versions_differ`).
+//! Where at most 14 packets of each PID are lost, a strict receiver hears both runs as one air.
 //!
-//! What a run leaves that ended, or whose report or air failed, is such a moment
+//! What a run leaves that ended, or whose report or air failed, stands so too
 //! (`what_is_left_stands`), also where the report has what a run prints at its end
-//! (`endings_have_no_outcome`).
+//! (`endings_have_no_outcome`), if the moments in that ending can be written.
 //!
-//! Not promised: what a power cut leaves, and what others lost of the air after the sink. That what
-//! stands at any moment is as `Stands` says is no clause: it is what a run leaves whose report or
-//! air fails there.
+//! Tested by whole runs in `play_rows`: lines at fault of each kind, each write and each read that
+//! fails in turn, how much the air has after a failed write, the order of entries, cycles and
+//! reads, and journals that are folded and gone on from.
+//!
+//! Not promised: that `Memory` comes only where memory runs out; that what stands at any moment
+//! within a run is as `Stands` says, but for what a run leaves whose report or air fails there;
+//! that anything is on the disk when it was written; what a power cut leaves, and what others lost
+//! of the air after the sink; how long the headend was silent between two airs.
 #![tactic(auto)]
 
 mod finish;

@@ -1,22 +1,20 @@
-//! The records of a guide: events, services, and what a receiver shows of a multiplex (EN 300 468,
-//! 5.2 and 6.2).
+//! The records of a guide, texts and their coded form, and genres as text (EN 300 468, 5.2, 6.2 and
+//! annex A).
 //!
-//! A list in these records is an `Items`, which contracts see as its elements. A copy of a guide
-//! equals its source (`Guide::copy`).
+//! The records are events, services, and what a receiver shows of a multiplex (EN 300 468, 5.2 and
+//! 6.2). A list in these records is an `Items`, which contracts see as its elements. A copy of a
+//! guide equals its source (`Guide::copy`).
 //!
-//! Texts and their coded form in descriptors (EN 300 468, annex A).
+//! A `Txt` has no control character; `Txt::of` takes exactly such texts. In descriptors texts are
+//! coded (EN 300 468, annex A). `encode_text` and `append_text` give the coded bytes, and
+//! `coded_len` their number. `decode_text` gives exactly what bytes are shown as. An encoded text
+//! decodes to itself (`coded_texts_decode`). `cut_len` gives the longest prefix that one descriptor
+//! takes (`size`, `whole`, `fits`, `longest`). The pieces of a long text join to that text
+//! (`pieces_join`). A `Txt` knows whether it is plain, so its coded length is found without reading
+//! it again, and `plain_cut_len` cuts it.
 //!
-//! A `Txt` has no control character; `Txt::of` takes exactly such texts. `encode_text` and
-//! `append_text` give the coded bytes, and `coded_len` their number. `decode_text` gives exactly
-//! what bytes are shown as. An encoded text decodes to itself (`coded_texts_decode`). `cut_len`
-//! gives the longest prefix that one descriptor takes (`size`, `whole`, `fits`, `longest`). The
-//! pieces of a long text join to that text (`pieces_join`). A `Txt` knows whether it is plain, so
-//! its coded length is found without reading it again, and `plain_cut_len` cuts it.
-//!
-//! The text of genres, for fields of a journal and of a printed guide.
-//!
-//! [`put_genres`] appends exactly the text that the definition says. Where memory runs out a part
-//! of it may have been appended.
+//! [`put_genres`] appends exactly the text of genres that the definition says, for fields of a
+//! journal and of a printed guide. Where memory runs out a part of it may have been appended.
 #![tactic(auto)]
 
 mod coding;

@@ -1,4 +1,5 @@
-//! What is wrong with a script line, and scripts that are read past their lines at fault.
+//! What is wrong with a script line, how a script is read past its lines at fault, and the report
+//! that is written as a script is played.
 //!
 //! [`next_noting`] gives exactly the next item of a script, or the next line at fault with its
 //! reason, as `first_noting` says it of the lines ahead and of what is held (`NotingOf`). It takes
@@ -9,16 +10,14 @@
 //! no item in its place (`why_is_exact`). Notings go on one by one, and what is read is typed as
 //! the items of a script are (`notings_go_on`).
 //!
+//! Each piece of that report is an entry of the journal, or a comment, which [`put_comment`]
+//! appends (`Piece`). The whole entries of a text are its longest front that ends with the line of
+//! an outcome (`whole_entries_are_longest`). Of a report that was cut anywhere they are the text of
+//! its whole pieces up to the last entry (`whole_entries_are_kept`).
+//!
 //! Tested in `note_rows`: each form of a comment, and what is read after it.
 //!
 //! Not promised: that `Memory` comes only where memory runs out.
-//!
-//! A report that is written as a script is played, and what is whole of it where it was cut.
-//!
-//! A piece of such a report is an entry of the journal or a comment (`Piece`), which [`put_comment`]
-//! appends. The whole entries of a text are its longest front that ends with the line of an outcome
-//! (`whole_entries_are_longest`). Of a report that was cut anywhere they are the text of its whole
-//! pieces up to the last entry (`whole_entries_are_kept`).
 #![tactic(auto)]
 
 mod comment;

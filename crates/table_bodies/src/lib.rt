@@ -1,35 +1,26 @@
-//! The entries of a table: fields, four bits, and descriptors after a length of 12 bits.
+//! The bodies of PAT, PMT, NIT, SDT and event information sections, and the entries in them
+//! (ISO/IEC 13818-1, 2.4.4.3 and 2.4.4.8; EN 300 468, 5.2.1, 5.2.3 and 5.2.4).
 //!
-//! The loops of PMT (ISO/IEC 13818-1, 2.4.4.8), NIT, SDT and EIT (EN 300 468, 5.2.1, 5.2.3 and
-//! 5.2.4) are lists of such entries, with fields of different sizes. [`split_entry`] cuts an entry
-//! off the front of bytes, or gives `None` exactly where they end within it. [`read_entries`] gives
-//! the values of a whole loop of a kind of entries ([`EntryKind`]), or `None` exactly where bytes
-//! are no such loop ([`entries_are_read`]). [`are_entries`] says which of the two it is, without
-//! taking memory.
-//!
-//! The bodies of PAT and PMT (ISO/IEC 13818-1, 2.4.4.3 and 2.4.4.8).
-//!
-//! `write_pat` and `write_pmt` give the body of a section. `read_pat` and `read_pmt` give the one
-//! value of a body, or `None` exactly where it has none. Written bodies read back
-//! (`written_programs_read_back`). `is_pat_body` and `is_pmt_body` say whether a body is read,
+//! An entry is fields, four bits, and descriptors after a length of 12 bits. The loops of PMT, NIT,
+//! SDT and EIT are lists of such entries, with fields of different sizes. [`split_entry`] cuts an
+//! entry off the front of bytes, or gives `None` exactly where they end within it. [`read_entries`]
+//! gives the values of a whole loop of a kind of entries ([`EntryKind`]), or `None` exactly where
+//! bytes are no such loop ([`entries_are_read`]). [`are_entries`] says which of the two it is,
 //! without taking memory.
 //!
-//! The bodies of NIT and SDT (EN 300 468, 5.2.1 and 5.2.3).
+//! `write_pat`, `write_pmt`, `write_nit` and `write_sdt` give the body of a section, and
+//! `write_eit` the body of events. `read_pat`, `read_pmt`, `read_nit`, `read_sdt` and `read_eit`
+//! give the one value of a body, or `None` exactly where it has none. Written bodies read back
+//! (`written_programs_read_back`, `written_networks_read_back`), those of events with all texts as
+//! `Text` (`written_events_read_back`). `is_pat_body`, `is_pmt_body`, `is_nit_body` and
+//! `is_sdt_body` say whether a body is read, without taking memory, and `is_eit_body` without
+//! making events.
 //!
-//! `write_nit` and `write_sdt` give the body of a section. `read_nit` and `read_sdt` give the one
-//! value of a body, or `None` exactly where it has none. Written bodies read back
-//! (`written_networks_read_back`). `service_len` gives the size of a service's entry, for whoever
-//! splits services into sections. `bodies_have_their_sizes` says how long bodies are. `is_nit_body`
-//! and `is_sdt_body` say whether a body is read, without taking memory.
+//! `service_len` gives the size of a service's entry, for whoever splits services into sections. An
+//! event's entry has the size that `event_len` gives. `bodies_have_their_sizes` says how long the
+//! bodies of NIT and SDT are.
 //!
-//! The bodies of event information sections (EN 300 468, 5.2.4).
-//!
-//! `write_eit` gives the body of events. `read_eit` gives the one value of a body, or `None`
-//! exactly where it has none. Written events read back with all texts as `Text`
-//! (`written_events_read_back`). An entry has the size that `event_len` gives. `is_eit_body` says
-//! whether a body is read, without making events.
-//!
-//! Not promised: how much memory a body takes.
+//! Not promised: how much memory a body of events takes.
 #![tactic(auto)]
 
 mod eit;

@@ -1,4 +1,5 @@
-//! Tests of tables other than events: `descriptors`, `table_bodies` and `time_tables`.
+//! Tests of tables other than events, and of their descriptors: calls of `table_bodies`,
+//! `descriptors` and `time_tables`.
 //!
 //! A line of `stdin` is a call with its arguments and the answer that is wanted (`run_rows`).
 #![tactic(auto)]
