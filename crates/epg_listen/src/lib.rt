@@ -11,7 +11,8 @@
 //! (`guide_parts`). A recording with a byte, in which no packet is found, is broken. By
 //! [`packets_are_reported`] the report without options is the completions of all packets and the
 //! guide that was heard of them. By [`whole_guides_are_reported_alike`] a whole guide is the same with
-//! `partial`, if of events that the SDT says are not sent nothing is held but whole tables.
+//! `partial`, if of events that the SDT says are not sent nothing is held but whole tables, and no
+//! table of a schedule without the first one.
 //!
 //! Tested by whole runs: a completion is reported before the next packet is read; recordings of
 //! other generators.
