@@ -24,7 +24,8 @@ use Rattle.desk_core.proofs.JournalFacts.{journal_legal, publication_stays}
 use Rattle.desk_core.proofs.DerivedFacts.{not_aired}
 use Rattle.journal_air.specs.Air.{mux_form, airing_at, airings, airings_by}
 use Rattle.desk_checkpoint.specs.Steps.{checkpoint_steps, folded, shift_of}
-use Rattle.desk_checkpoint.specs.Going.{is_taken, raised, all_raised, GoOnAlike}
+use Rattle.desk_checkpoint.specs.Going.{is_taken, GoOnAlike}
+use Rattle.journal_model.specs.Raising.{raised, all_raised}
 use Rattle.desk_checkpoint.proofs.GoFacts.{journals_alike, publications_alike}
 use Rattle.desk_checkpoint.proofs.FoldFacts.{steps_taken, goes_on}
 

@@ -36,7 +36,8 @@ use Rattle.desk_core.proofs.JournalFacts.{publishes-push, accepted-push, publica
 use Rattle.desk_core.proofs.DerivedFacts.{edited, now_accepted, now_ticked}
 use Rattle.desk_core.proofs.WithinFacts.{draft_within}
 use Rattle.desk_checkpoint.specs.Steps.{checkpoint_steps, steps_of}
-use Rattle.desk_checkpoint.specs.Going.{raised, raised_entry, all_raised, GoOnAlike}
+use Rattle.desk_checkpoint.specs.Going.{GoOnAlike}
+use Rattle.journal_model.specs.Raising.{raised, raised_entry, all_raised}
 
 -- ---- an edit, over the book alone
 

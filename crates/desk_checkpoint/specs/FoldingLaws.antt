@@ -10,7 +10,8 @@ use Rattle.desk_core.specs.Journal.{Legal, publishes, journal_after}
 use Rattle.desk_core.specs.Publications.{guide_after, publication, swaps}
 use Rattle.journal_air.specs.Air.{airings, airings_by}
 use Rattle.desk_checkpoint.specs.Steps.{checkpoint_steps, steps_of, folded, shift_of}
-use Rattle.desk_checkpoint.specs.Going.{is_taken, all_raised, GoOnAlike}
+use Rattle.desk_checkpoint.specs.Going.{is_taken, GoOnAlike}
+use Rattle.journal_model.specs.Raising.{all_raised}
 
 -- ---- of a checkpoint
 

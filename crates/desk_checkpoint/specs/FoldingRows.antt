@@ -12,7 +12,7 @@ use Rattle.journal_model.specs.declared.step.Entry.{Entry}
 use Rattle.journal_model.specs.Rows.{row_journal}
 use Rattle.desk_checkpoint.specs.Items.{event_item}
 use Rattle.desk_checkpoint.specs.Steps.{checkpoint_steps, folded, shift_of}
-use Rattle.desk_checkpoint.specs.Going.{raised}
+use Rattle.journal_model.specs.Raising.{raised}
 
 -- nothing was published: the names of the multiplex, and no event
 row_empty : checkpoint_steps row_mux []

@@ -1,5 +1,5 @@
 -- Two journals that go on alike, but for the numbers of their publications.
-use Rattle.std.specs.Prelude.{◌≡◌, ℕ, ◌+◌, Bool, true, false, List, map}
+use Rattle.std.specs.Prelude.{◌≡◌, ℕ, ◌+◌, Bool, true, false, List}
 use Rattle.mux_model.specs.declared.mux.Mux.{Mux}
 use Rattle.mux_model.specs.Fed.{fed_services}
 use Rattle.guide_limits.specs.Guides.{book_after}
@@ -17,22 +17,6 @@ is_taken Ticked = true
 is_taken (Late now) = false
 is_taken (Published n) = true
 is_taken (Swapped n at) = false
-
--- the outcome with the number of its publication raised by the shift
-abbrev pub raised : ℕ → Outcome → Outcome
-raised shift (Edited reply) = Edited reply
-raised shift Ticked = Ticked
-raised shift (Late now) = Late now
-raised shift (Published n) = Published (shift + n)
-raised shift (Swapped n at) = Swapped (shift + n) at
-
--- the entry with its outcome raised
-abbrev pub raised_entry : ℕ → Entry → Entry
-raised_entry shift entry = record { who = entry.who; step = entry.step; outcome = raised shift entry.outcome }
-
--- each entry raised
-abbrev pub all_raised : ℕ → List Entry → List Entry
-all_raised shift entries = map (raised_entry shift) entries
 
 -- What a desk has after the one journal and after the other is equal: the book, the moment and the latest publication. The
 -- first journal has more publications, by the shift.

@@ -12,6 +12,5 @@ pub mod Reads
 pub mod Starts
 pub mod Text
 pub mod HandedOver
-pub mod Raising
 pub mod Laws
 mod Rows

@@ -29,7 +29,6 @@ mod head;
 mod laws;
 mod part;
 mod parts;
-mod raising;
 mod read;
 mod reading;
 mod start;
@@ -37,7 +36,6 @@ mod text;
 
 pub use folding_laws::{checkpoints_are_taken, checkpoints_fold_again, desks_go_on};
 pub use laws::checkpoints_read_back;
-pub use raising::raise;
 pub use read::read_checkpoint;
 pub use start::{CheckStop, Start};
 pub use text::write_checkpoint;

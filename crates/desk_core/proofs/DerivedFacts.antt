@@ -23,7 +23,7 @@ use Rattle.journal_model.specs.declared.step.Outcome.TheVariants.{Edited, Ticked
 use Rattle.journal_model.specs.declared.step.Outcome.{Outcome}
 use Rattle.journal_model.specs.declared.step.Entry.{Entry}
 use Rattle.desk_core.specs.declared.airing.Airing.{Airing}
-use Rattle.desk_core.specs.declared.derived.Derived.{Derived}
+use Rattle.desk_core.specs.declared.desk_state.Derived.{Derived}
 use Rattle.desk_core.specs.Journal.{is_publish, accepted, publishes, moment_of, later_of, ticked}
 use Rattle.desk_core.specs.Publications.{publication, airing_of, last_aired, guide_after, aired_by}
 use Rattle.journal_model.specs.Steps.{IsStepWithin}

@@ -10,7 +10,7 @@ use Rattle.journal_model.specs.declared.step.Outcome.{Outcome}
 use Rattle.journal_model.specs.declared.step.Entry.{Entry}
 use Rattle.journal_model.specs.Steps.{IsInWindow}
 use Rattle.desk_core.specs.Journal.{moment_of, outcome_of, publishes, ticked}
-use Rattle.desk_core.specs.declared.derived.Derived.{Derived}
+use Rattle.desk_core.specs.declared.desk_state.Derived.{Derived}
 use Rattle.desk_core.specs.Holding.{IsDerived}
 use Rattle.desk_core.specs.Lean.{IsNumbered}
 use Rattle.desk_core.proofs.MomentFacts.{moment_range, written_steps}

@@ -17,7 +17,7 @@ use Rattle.journal_model.specs.Steps.{IsStepWithin, IsStepInWindow}
 use Rattle.desk_core.specs.Journal.{Legal, LegalAfter, later_of, latest_of_all, ticked_by, moment_of, outcome_of}
 use Rattle.desk_core.specs.Publications.{aired_by, swaps}
 use Rattle.desk_core.specs.declared.airing.Airing.{Airing}
-use Rattle.desk_core.specs.declared.derived.Derived.{Derived}
+use Rattle.desk_core.specs.declared.desk_state.Derived.{Derived}
 use Rattle.desk_core.specs.Holding.{IsDerived}
 use Rattle.desk_core.proofs.DerivedFacts.{not_aired}
 

@@ -9,7 +9,7 @@ ghost use Rattle.desk_core.specs.Journal.{outcome_of};
 ghost use Rattle.desk_core.specs.Lean.{IsLean, IsNumbered, StandsFor, with_entry};
 
 use crate::airing::Airing;
-use crate::derived::{Derived, open_held, perform};
+use crate::desk_state::{Derived, open_held, perform};
 use journal_model::{Outcome, Step};
 use mux_model::Mux;
 use std::alloc::{AllocError, Global};

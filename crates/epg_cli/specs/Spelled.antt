@@ -1,5 +1,5 @@
 -- Which command the words of a run spell.
-use Rattle.headend_live.specs.declared.watched.LivePlan.{LivePlan}
+use Rattle.headend_live.specs.declared.live.LivePlan.{LivePlan}
 use Rattle.std.specs.Prelude.{◌≡◌, ℕ, Bool, true, false, List, None, Some, String}
 use Rattle.command_words.specs.Commands.{texts}
 use Rattle.command_words.specs.Grammar.{ListenOptions, PlayOptions, Audit, Listen, Live, Play, Soak, command_of, followed, played, played_long}

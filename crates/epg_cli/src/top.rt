@@ -15,7 +15,7 @@ ghost use Rattle.epg_live.specs.LiveRun.{LiveRan};
 ghost use Rattle.epg_live.specs.Stops.{HasStatusCause};
 ghost use Rattle.epg_soak.specs.SoakRun.{SoakRan};
 ghost use Rattle.epg_audit.specs.Leaves.{AuditRan};
-ghost use Rattle.headend_live.specs.declared.watched.LivePlan.{LivePlan};
+ghost use Rattle.headend_live.specs.declared.live.LivePlan.{LivePlan};
 ghost use Rattle.epg_cli.specs.Plays.{PlayEnds};
 ghost use Rattle.epg_cli.specs.Spelled.{IsUsage, IsPlay, IsFold, IsResume, IsLongPlay, IsLongFold, IsLongResume, IsFollow, IsFollowResume, SpellsFreshPlay, IsListen, SpellsListen, IsLive, IsSoak, IsAudit, SpellsAudit, SpellsSoak};
 

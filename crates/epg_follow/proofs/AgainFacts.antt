@@ -2,7 +2,7 @@
 use Rattle.std.proofs.Common.{◌≡◌, ℕ, ◌+◌, ◌-◌, List, [], ◌∷◌, ◌++◌, Bool, true, false, Some, None, length, map, take, suc, refl, sym, ap, ◌∙◌, subst, arith, append_assoc}
 use Rattle.std.specs.Prelude.{◌≤◌, Ok, codes, decimal, slice_index, ◌==◌, if◌then◌else◌}
 use Rattle.std.specs.List.{AllByRecursion}
-use Rattle.desk_checkpoint.specs.Going.{raised}
+use Rattle.journal_model.specs.Raising.{raised}
 use Rattle.journal_text.specs.CommandBack.{ahead_of, command_lines, shown_lines}
 use Rattle.desk_core.specs.Desks.{DeskState}
 use Rattle.desk_core.specs.Journal.{LegalAfter, journal_after, outcome_of}

@@ -9,7 +9,8 @@ use Rattle.journal_model.specs.declared.step.Outcome.{Outcome}
 use Rattle.journal_model.specs.declared.step.Entry.{Entry}
 use Rattle.journal_model.specs.Steps.{Command}
 use Rattle.desk_core.specs.Journal.{Legal, entry_after}
-use Rattle.desk_checkpoint.specs.Going.{GoOnAlike, raised_entry}
+use Rattle.desk_checkpoint.specs.Going.{GoOnAlike}
+use Rattle.journal_model.specs.Raising.{raised_entry}
 use Rattle.desk_checkpoint.proofs.GoFacts.{after_alike, all_legal, journals_alike}
 use Rattle.script_lines.specs.declared.script.ScriptItem.TheVariants.{Step as step, Kept, End}
 use Rattle.script_notes.specs.declared.noting.Noting.{Noting}

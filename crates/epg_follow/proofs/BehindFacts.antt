@@ -18,7 +18,7 @@ use Rattle.cycle_player.specs.Tallies.{tally_of}
 use Rattle.cycle_player.proofs.Airs.{airings_are as cycle_airings}
 use Rattle.journal_air.specs.Air.{airings}
 use Rattle.journal_air.specs.JournalScreenShown.{IsAsRead}
-use Rattle.desk_checkpoint.specs.Going.{all_raised}
+use Rattle.journal_model.specs.Raising.{all_raised}
 use Rattle.desk_checkpoint.proofs.GoFacts.{journals_alike}
 use Rattle.journal_air.specs.OnAir.{HasAired, IsPlayerOf}
 use Rattle.journal_air.specs.Tallied.{HasTallied}

@@ -12,7 +12,7 @@ use Rattle.journal_model.specs.declared.step.Entry.{Entry}
 use Rattle.journal_model.specs.Steps.{Command}
 use Rattle.desk_core.specs.Journal.{entry_after, journal_after}
 use Rattle.desk_core.proofs.JournalFacts.{journal_more}
-use Rattle.desk_checkpoint.specs.Going.{all_raised, raised_entry}
+use Rattle.journal_model.specs.Raising.{all_raised, raised_entry}
 use Rattle.script_lines.specs.declared.script.ScriptItem.TheVariants.{Step as step, Kept, End}
 use Rattle.epg_play.specs.Outcomes.{is_outcome}
 use Rattle.epg_play.specs.Script.{Stop, stop_of}

@@ -15,7 +15,7 @@ use Rattle.journal_model.specs.declared.step.Outcome.{Outcome}
 use Rattle.journal_model.specs.declared.step.Entry.{Entry}
 use Rattle.desk_core.specs.Journal.{journal_after}
 use Rattle.desk_core.specs.Lean.{StandsFor}
-use Rattle.desk_checkpoint.specs.Going.{all_raised}
+use Rattle.journal_model.specs.Raising.{all_raised}
 use Rattle.epg_report.specs.Told.{ReportTaken}
 use Rattle.cycle_player.specs.Sending.{Sending}
 use Rattle.journal_air.specs.OnAir.{HasAired, IsPlayerOf}

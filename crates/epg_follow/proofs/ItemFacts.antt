@@ -11,8 +11,7 @@ use Rattle.journal_model.specs.declared.step.Outcome.{Outcome}
 use Rattle.journal_model.specs.declared.step.Entry.{Entry}
 use Rattle.journal_model.specs.Steps.{IsEntryInWindow, IsInWindow, IsStepInWindow, IsStepWithin}
 use Rattle.desk_core.specs.Lean.{IsNumbered}
-use Rattle.desk_checkpoint.specs.Raising.{CanBeRaised}
-use Rattle.desk_checkpoint.specs.Going.{raised}
+use Rattle.journal_model.specs.Raising.{CanBeRaised, raised}
 use Rattle.epg_play.proofs.RaiseFacts.{can_raise, raised_window}
 use Rattle.desk_core.specs.Journal.{Legal, entry_after}
 use Rattle.desk_core.specs.Desks.{DeskState}

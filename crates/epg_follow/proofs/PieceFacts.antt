@@ -10,7 +10,7 @@ use Rattle.journal_model.specs.declared.step.Outcome.{Outcome}
 use Rattle.journal_model.specs.declared.step.Entry.{Entry}
 use Rattle.journal_model.specs.Steps.{Command, IsStepInWindow, IsTypedStep}
 use Rattle.desk_core.specs.Journal.{entry_after, journal_after}
-use Rattle.desk_checkpoint.specs.Going.{all_raised}
+use Rattle.journal_model.specs.Raising.{all_raised}
 use Rattle.script_lines.specs.declared.script.ScriptItem.TheVariants.{Step as step, Kept, End}
 use Rattle.script_notes.specs.declared.noting.Noting.{Noting}
 use Rattle.script_notes.specs.declared.noting.Noting.TheVariants.{Bad, Item}

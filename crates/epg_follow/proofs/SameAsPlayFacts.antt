@@ -13,7 +13,7 @@ use Rattle.journal_model.specs.declared.step.Entry.{Entry}
 use Rattle.journal_model.specs.Steps.{Command}
 use Rattle.desk_core.specs.Journal.{entry_after, journal_after, outcome_of}
 use Rattle.journal_air.specs.OnAir.{and_step}
-use Rattle.desk_checkpoint.specs.Going.{all_raised, raised}
+use Rattle.journal_model.specs.Raising.{all_raised, raised}
 use Rattle.script_lines.specs.declared.script.ScriptItem.{ScriptItem}
 use Rattle.script_lines.specs.declared.script.ScriptItem.TheVariants.{Step as step, Kept, End}
 use Rattle.script_lines.specs.Script.{Asked, IsRead, asked_by, first_script_item, is_command, is_outcome_line, item_on, items_ahead, kept_in, kept_item, read_command, read_item, step_item}

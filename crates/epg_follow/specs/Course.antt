@@ -13,7 +13,7 @@ use Rattle.script_notes.specs.declared.noting.Noting.{Noting}
 use Rattle.script_notes.specs.declared.noting.Noting.TheVariants.{Bad, Item}
 use Rattle.script_notes.specs.Notings.{notings_ahead}
 use Rattle.script_notes.specs.Pieces.{Piece, Entered, Noted}
-use Rattle.desk_checkpoint.specs.Going.{raised_entry}
+use Rattle.journal_model.specs.Raising.{raised_entry}
 use Rattle.epg_play.specs.Outcomes.{is_outcome}
 use Rattle.epg_play.specs.Script.{Stop, NoCommand, Disagreed, stop_of}
 

@@ -9,7 +9,7 @@ use Rattle.input_lines.specs.Reads.{ahead_with}
 use Rattle.journal_model.specs.declared.step.Entry.{Entry}
 use Rattle.journal_model.specs.Steps.{Command}
 use Rattle.desk_core.specs.Journal.{journal_after}
-use Rattle.desk_checkpoint.specs.Going.{all_raised}
+use Rattle.journal_model.specs.Raising.{all_raised}
 use Rattle.epg_report.specs.Told.{ReportTaken}
 use Rattle.epg_play.specs.Script.{Stop, Ended, NoCommand as NoLine, Disagreed, TooLong, Unread}
 use Rattle.script_notes.specs.Pieces.{Piece, Noted, entries_in, piece_text, pieces_text}

@@ -22,11 +22,10 @@ ghost use Rattle.std.specs.Io.KnownBytes.{IsAtEnd};
 
 use crate::follower::Follower;
 use crate::stop::FollowStop;
-use desk_checkpoint::raise;
 use epg_play::agree;
 use input_lines::EditStop;
 use journal_air::{SendStop, send_cycle};
-use journal_model::{Entry, Outcome, Step};
+use journal_model::{Entry, Outcome, Step, raise};
 use journal_text::{ScriptItem, write_entry};
 use script_notes::{Noting, Why, next_noting, put_comment};
 use si_causes::{LineReader, Sink, Source, write_all};

@@ -2,7 +2,7 @@
 use Rattle.std.proofs.Common.{◌≡◌, ◌≤◌, ◌++◌, ◌∷◌, [], append_assoc, inl, inr, ℕ, true, false, List, length, refl, sym, ap, ◌∙◌, subst, map, drop}
 use Rattle.std.specs.Prelude.{Option, Some, None, IfSome, IsSome, Ok, Err, Result}
 use Rattle.std.specs.List.{AllByRecursion}
-use Rattle.headend_live.specs.declared.watched.LivePlan.{LivePlan}
+use Rattle.headend_live.specs.declared.live.LivePlan.{LivePlan}
 use Rattle.si_causes.specs.Opening.{Files}
 use Rattle.mux_model.specs.declared.mux.Mux.{Mux}
 use Rattle.si_time.specs.declared.moment.Moment.{Moment}

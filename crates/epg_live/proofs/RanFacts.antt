@@ -32,8 +32,8 @@ use Rattle.headend_jobs.specs.Ran.{Taken}
 use Rattle.headend_jobs.specs.Stops.{feeds_stop, halts, run_stop}
 use Rattle.headend_jobs.specs.Ticking.{tick_of}
 use Rattle.journal_air.specs.declared.send.SendStop.{SendStop}
-use Rattle.headend_live.specs.declared.watched.LivePlan.{LivePlan}
-use Rattle.headend_live.specs.declared.watched.LiveEnd.{LiveEnd}
+use Rattle.headend_live.specs.declared.live.LivePlan.{LivePlan}
+use Rattle.headend_live.specs.declared.live.LiveEnd.{LiveEnd}
 use Rattle.headend_live.specs.Watched.{WatchedRan, watched_stop}
 use Rattle.epg_report.specs.Rates.{rate_line}
 use Rattle.epg_report.specs.Told.{OpenerAsked, ReportTaken, gave}

@@ -1,7 +1,7 @@
 -- A run over the text of its input and the files of its feeds.
 use Rattle.std.specs.Prelude.{◌≡◌, ◌≢◌, ◌↔◌, ℕ, ◌+◌, ◌≤◌, List, [], ◌∷◌, ◌++◌, length, map, Option, Some, None, IfSome, IsSome, Ok, Err, Result}
 use Rattle.std.specs.Io.KnownBytes.{Appends}
-use Rattle.headend_live.specs.declared.watched.LivePlan.{LivePlan}
+use Rattle.headend_live.specs.declared.live.LivePlan.{LivePlan}
 use Rattle.si_causes.specs.Opening.{Files, file_at}
 use Rattle.si_causes.specs.Reading.{Reading, fresh}
 use Rattle.si_causes.specs.declared.stop.ReadStop.TheVariants.{Failed}

@@ -7,7 +7,7 @@ use Rattle.guide_board.specs.declared.post.Post.{Post}
 use Rattle.guide_board.specs.Posts.{Sight, serves}
 use Rattle.command_words.specs.declared.command.LiveWords.{LiveWords}
 use Rattle.headend_live.specs.declared.views.ViewLine.{ViewLine}
-use Rattle.headend_live.specs.declared.watched.LivePlan.{LivePlan}
+use Rattle.headend_live.specs.declared.live.LivePlan.{LivePlan}
 use Rattle.headend_live.specs.Viewing.{AreViewed}
 
 -- what the words of `live` say of a run, but for its feeds

@@ -20,7 +20,7 @@ use Rattle.desk_core.specs.Journal.{LegalAfter, outcome_of}
 use Rattle.journal_model.specs.contracts.step.OutcomeEq.TheImpl.Laws as outcome_law
 use Rattle.journal_model.specs.Steps.{command_of}
 use Rattle.desk_core.specs.Desks.{DeskState, fresh}
-use Rattle.desk_checkpoint.specs.Going.{raised}
+use Rattle.journal_model.specs.Raising.{raised}
 use Rattle.desk_core.proofs.JournalFacts.{journal_only}
 use Rattle.journal_text.specs.Back.{EntryReadsBack, IsReadable}
 use Rattle.journal_text.specs.CommandBack.{ahead_of, command_lines, shown_lines}

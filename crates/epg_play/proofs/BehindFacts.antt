@@ -19,7 +19,7 @@ use Rattle.cycle_player.specs.Tallies.{tally_of}
 use Rattle.cycle_player.proofs.Airs.{airings_are as cycle_airings}
 use Rattle.journal_air.specs.Air.{airings}
 use Rattle.journal_air.proofs.Heard.{airs_heard}
-use Rattle.desk_checkpoint.specs.Going.{all_raised}
+use Rattle.journal_model.specs.Raising.{all_raised}
 use Rattle.desk_checkpoint.specs.declared.start.Start.{Start}
 use Rattle.desk_checkpoint.specs.Text.{start_text}
 use Rattle.journal_air.specs.OnAir.{HasAired, HasAiredFront}

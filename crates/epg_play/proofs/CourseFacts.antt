@@ -33,7 +33,7 @@ use Rattle.epg_play.specs.declared.stop.PlayStop.TheVariants.{NoMux, NoCommand a
 use Rattle.epg_play.specs.Script.{Stop, Ended, NoCommand, Disagreed, TooLong, Unread, commands_of, difference, first_difference, first_of, stop_of, up_to}
 use Rattle.epg_play.specs.Played.{AiredTo, HasAirCause, HasReadCause, IsBehindMux, IsDifference, PlayedWhole, RestDid, RestTaken, course_of, desk_after, late_difference, played_raised, read_stop, send_stop, unless_late}
 use Rattle.air_model.specs.Air.{Aired}
-use Rattle.desk_checkpoint.specs.Going.{all_raised, raised}
+use Rattle.journal_model.specs.Raising.{all_raised, raised}
 use Rattle.epg_play.specs.Items.{AreDone, ItemDid, Stops, Went, course_at}
 
 -- commands and a stop

@@ -28,7 +28,8 @@ use Rattle.journal_air.specs.Air.{airings}
 use Rattle.journal_air.specs.JournalScreenShown.{IsAsRead}
 use Rattle.journal_air.proofs.Heard.{airs_heard}
 use Rattle.desk_checkpoint.specs.Steps.{checkpoint_steps}
-use Rattle.desk_checkpoint.specs.Going.{GoOnAlike, all_raised, raised_entry}
+use Rattle.desk_checkpoint.specs.Going.{GoOnAlike}
+use Rattle.journal_model.specs.Raising.{all_raised, raised_entry}
 use Rattle.desk_checkpoint.proofs.GoFacts.{after_alike, all_legal, folds_again, journals_alike}
 use Rattle.desk_checkpoint.specs.Text.{checkpoint_text, desk_steps, start_text}
 use Rattle.desk_checkpoint.specs.HandedOver.{AreHandedOver, HandsOver}

@@ -16,8 +16,7 @@ use Rattle.desk_core.proofs.DerivedFacts.{few_publishes}
 use Rattle.desk_core.proofs.LeanFacts.{step_numbered}
 use Rattle.desk_core.specs.Lean.{IsNumbered}
 use Rattle.journal_model.specs.Steps.{IsInWindow}
-use Rattle.desk_checkpoint.specs.Going.{raised}
-use Rattle.desk_checkpoint.specs.Raising.{CanBeRaised}
+use Rattle.journal_model.specs.Raising.{raised, CanBeRaised}
 use Rattle.epg_play.proofs.WindowFacts.{at_place}
 
 after_numbered : (mux : Mux) (before entries : List Entry) (most : ℕ) → LegalAfter mux before entries → length before + length entries ≤ most → AllByRecursion (λ (entry : Entry). IsNumbered most entry.outcome) entries

@@ -32,7 +32,7 @@ use Rattle.epg_report.specs.declared.status.Origin.TheVariants.{Input, Feed, Rec
 use Rattle.epg_play.specs.Script.{Script, Stop, commands_of, first_difference, played_items, stop_of, up_to, Ended, NoMux, NoCommand, Disagreed, TooLong, Unread, no_mux, script_in, script_taken, script_with, script_within, with_commands}
 use Rattle.journal_model.specs.declared.step.Outcome.{Outcome}
 use Rattle.journal_model.specs.declared.step.Outcome.TheVariants.{Edited, Ticked, Late, Published, Swapped}
-use Rattle.desk_checkpoint.specs.Going.{all_raised, raised}
+use Rattle.journal_model.specs.Raising.{all_raised, raised}
 use Rattle.script_lines.specs.Script.{asked_by, items_ahead}
 use Rattle.epg_play.specs.Items.{Stops, Went, course_at}
 use Rattle.epg_play.specs.Played.{RestDid, course, desk_after}

@@ -8,7 +8,7 @@ use Rattle.journal_model.specs.declared.step.Entry.{Entry}
 use Rattle.journal_model.specs.Steps.{IsEntryInWindow, IsStepWithin}
 use Rattle.desk_core.specs.Journal.{Legal}
 use Rattle.desk_core.proofs.WindowFacts.{legal_window}
-use Rattle.desk_checkpoint.specs.Raising.{CanBeRaised}
+use Rattle.journal_model.specs.Raising.{CanBeRaised}
 use Rattle.epg_play.proofs.RaiseFacts.{entries_raise}
 use Rattle.epg_play.specs.Courses.{CanBeWritten}
 

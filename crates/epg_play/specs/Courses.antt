@@ -11,9 +11,8 @@ use Rattle.journal_model.specs.declared.step.Entry.{Entry}
 use Rattle.journal_model.specs.Steps.{Command, IsInWindow, IsStepInWindow, IsStepWithin}
 use Rattle.desk_core.specs.Desks.{DeskState}
 use Rattle.journal_text.specs.Entries.{journal_text}
-use Rattle.desk_checkpoint.specs.Going.{all_raised}
+use Rattle.journal_model.specs.Raising.{all_raised, CanBeRaised}
 use Rattle.desk_checkpoint.specs.declared.start.Start.{Start}
-use Rattle.desk_checkpoint.specs.Raising.{CanBeRaised}
 use Rattle.desk_checkpoint.specs.Starts.{IsStart}
 use Rattle.desk_checkpoint.specs.HandedOver.{HandsOver}
 use Rattle.desk_checkpoint.specs.Text.{start_text}

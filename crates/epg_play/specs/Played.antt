@@ -19,7 +19,7 @@ use Rattle.journal_model.specs.Steps.{Command, IsInWindow}
 use Rattle.desk_core.specs.Desks.{DeskState}
 use Rattle.script_lines.specs.declared.script.ScriptItem.{ScriptItem}
 use Rattle.script_lines.specs.Script.{Asked, asked_by, items_ahead, kept_first}
-use Rattle.desk_checkpoint.specs.Going.{all_raised}
+use Rattle.journal_model.specs.Raising.{all_raised}
 use Rattle.journal_air.specs.OnAir.{HasAired, HasAiredFront}
 use Rattle.journal_air.specs.Tallied.{HasTallied}
 use Rattle.journal_air.specs.declared.send.SendStop.{SendStop}

@@ -6,16 +6,15 @@ ghost use Rattle.journal_model.specs.declared.step.Entry.{Entry as AnEntry};
 ghost use Rattle.desk_core.specs.Journal.{Legal};
 ghost use Rattle.desk_core.specs.Desks.{DeskState};
 ghost use Rattle.journal_model.specs.Steps.{IsInWindow};
-ghost use Rattle.desk_checkpoint.specs.Going.{raised};
+ghost use Rattle.journal_model.specs.Raising.{raised};
 ghost use Rattle.journal_air.specs.OnAir.{is_swap};
 ghost use Rattle.epg_play.specs.Items.{Falls, GoesOn, ItemDid, Went};
 ghost use Rattle.epg_play.specs.Outcomes.{is_outcome};
 ghost use Rattle.epg_play.specs.Played.{HasReadCause, IsDifference, IsStopInWindow, late_difference, read_stop};
 
 use crate::stop::PlayStop;
-use desk_checkpoint::raise;
 use desk_core::Desk;
-use journal_model::{Outcome, Step};
+use journal_model::{Outcome, Step, raise};
 use journal_text::{ScriptItem, next_item};
 use script_lines::EditStop;
 use si_causes::{LineReader, Source};

@@ -2,16 +2,16 @@
 ghost use Rattle.std.specs.Prelude.{◌≡◌, ◌<◌, ◌^◌, ◌++◌, [], true, Some, IfOk, IfSome, OnOk};
 ghost use Rattle.std.specs.List.{AllByRecursion};
 ghost use Rattle.journal_text.specs.Entries.{journal_text};
-ghost use Rattle.desk_checkpoint.specs.Going.{all_raised};
+ghost use Rattle.journal_model.specs.Raising.{all_raised};
 ghost use Rattle.desk_checkpoint.specs.HandedOver.{HandsOver};
 ghost use Rattle.epg_report.specs.Texts.{CanBeSaid, fault_lines};
 ghost use Rattle.epg_report.specs.Told.{told};
 ghost use Rattle.epg_play.specs.Courses.{CanBeWritten, Finished, HandedBy, IsCourse, course_text, is_done, made_entries, made_text, played_text};
 
 use crate::played::{Course, Played};
-use desk_checkpoint::{raise, write_checkpoint};
+use desk_checkpoint::write_checkpoint;
 use epg_report::{Status, ended, out_of_memory, put_fault_line, put_rate_line};
-use journal_model::Entry;
+use journal_model::{Entry, raise};
 use journal_text::write_entry_with;
 use si_causes::{Sink, write_all};
 use std::alloc::{AllocError, Global};

@@ -1,6 +1,6 @@
 -- What a run over the sources of a load met.
 use Rattle.std.specs.Prelude.{◌≡◌, ℕ, Bool, true, false, List, [], Option, Some}
-use Rattle.headend_live.specs.declared.watched.LivePlan.{LivePlan}
+use Rattle.headend_live.specs.declared.live.LivePlan.{LivePlan}
 use Rattle.epg_report.specs.declared.status.Status.{Status}
 use Rattle.epg_report.specs.declared.status.Status.TheVariants.{Done, OpenFault, WriteFault, Memory}
 use Rattle.epg_report.specs.declared.status.Outlet.TheVariants.{Air}

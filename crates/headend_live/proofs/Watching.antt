@@ -30,9 +30,9 @@ use Rattle.headend_jobs.specs.declared.live.LiveStop.TheVariants as live
 use Rattle.headend_jobs.specs.Jobs.{Streams}
 use Rattle.headend_jobs.specs.Posting.{posts_of}
 use Rattle.headend_jobs.specs.Ran.{HallRan, Taken, taken}
-use Rattle.headend_live.specs.declared.watched.LiveEnd.{LiveEnd}
-use Rattle.headend_live.specs.declared.watched.LivePlan.{LivePlan}
-use Rattle.headend_live.specs.declared.watched.Observed.{Observed}
+use Rattle.headend_live.specs.declared.live.LiveEnd.{LiveEnd}
+use Rattle.headend_live.specs.declared.live.LivePlan.{LivePlan}
+use Rattle.headend_live.specs.declared.live.Observed.{Observed}
 use Rattle.headend_live.specs.SentLive.{SentLive}
 use Rattle.headend_live.specs.Viewing.{AreViewed}
 use Rattle.headend_live.specs.Watched.{HeardOfAir, HeardWhole, IsNotTold, IsTold, WatchedRan, watched_stop}

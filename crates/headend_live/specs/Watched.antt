@@ -23,10 +23,10 @@ use Rattle.headend_jobs.specs.Jobs.{Streams}
 use Rattle.headend_jobs.specs.Posting.{opening_of, posts_of}
 use Rattle.headend_jobs.specs.Ran.{HallRan, Taken}
 use Rattle.headend_jobs.specs.Stops.{and_stop}
-use Rattle.headend_live.specs.declared.watched.LivePlan.{LivePlan}
-use Rattle.headend_live.specs.declared.watched.LiveEnd.{LiveEnd}
-use Rattle.headend_live.specs.declared.watched.Observed.{Observed}
-use Rattle.headend_live.specs.declared.watched.Opened.{Opened}
+use Rattle.headend_live.specs.declared.live.LivePlan.{LivePlan}
+use Rattle.headend_live.specs.declared.live.LiveEnd.{LiveEnd}
+use Rattle.headend_live.specs.declared.live.Observed.{Observed}
+use Rattle.headend_live.specs.declared.live.Opened.{Opened}
 use Rattle.headend_live.specs.Viewing.{AreViewed, IsNew, IsServiceOf}
 
 -- the guide that the whole packets of an air give, from packet `join` on

@@ -1,3 +1,4 @@
 pub mod Edits
 pub mod Steps
+pub mod Raising
 pub mod Rows

@@ -4,11 +4,11 @@
 //! A line of `stdin` is a call with its arguments and the answer that is wanted (`run_rows`).
 #![tactic(auto)]
 
-mod descriptors;
 mod looks;
 mod networks;
 mod offsets;
 mod programs;
+mod service_descriptors;
 mod services;
 mod times;
 
@@ -18,16 +18,16 @@ use std::io;
 // Answers a row.
 fn answer(row: &mut Row) {
     match row.word() {
-        "write_iso_639_language" => descriptors::write_languages(row),
-        "read_iso_639_language" => descriptors::read_languages(row),
-        "write_network_name" => descriptors::write_name(row),
-        "read_network_name" => descriptors::read_name(row),
-        "write_service_list" => descriptors::write_list(row),
-        "read_service_list" => descriptors::read_list(row),
-        "write_cable_delivery_system" => descriptors::write_cable(row),
-        "read_cable_delivery_system" => descriptors::read_cable(row),
-        "write_service" => descriptors::write_text(row),
-        "read_service" => descriptors::read_text(row),
+        "write_iso_639_language" => service_descriptors::write_languages(row),
+        "read_iso_639_language" => service_descriptors::read_languages(row),
+        "write_network_name" => service_descriptors::write_name(row),
+        "read_network_name" => service_descriptors::read_name(row),
+        "write_service_list" => service_descriptors::write_list(row),
+        "read_service_list" => service_descriptors::read_list(row),
+        "write_cable_delivery_system" => service_descriptors::write_cable(row),
+        "read_cable_delivery_system" => service_descriptors::read_cable(row),
+        "write_service" => service_descriptors::write_text(row),
+        "read_service" => service_descriptors::read_text(row),
         "write_pat" => programs::write_programs(row),
         "read_pat" => programs::read_programs(row),
         "write_pmt" => programs::write_program(row),

@@ -3,7 +3,7 @@ ghost use Rattle.std.specs.Prelude.{◌<◌, sum_by, IsTrue};
 ghost use Rattle.std.specs.List.{All};
 ghost use Rattle.table_bodies.specs.Nit.{FitsStream, stream_size};
 
-use crate::descriptors::{cable_in, fits, kinds_in, put_cable, put_kinds};
+use crate::service_descriptors::{cable_in, fits, kinds_in, put_cable, put_kinds};
 use guide_model::Shown;
 use row_lines::{Row, each_part, put_made, put_read, put_shown, text};
 use si_base::Items;

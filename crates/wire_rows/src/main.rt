@@ -5,7 +5,7 @@
 
 mod bodies;
 mod completions;
-mod descriptors;
+mod event_descriptors;
 mod events;
 mod hearing;
 mod packets;
@@ -50,13 +50,13 @@ fn answer_of_section(row: &mut Row, call: &str) {
 // The same of the calls on descriptors, and of what is read of bytes alone.
 fn answer_of_descriptor(row: &mut Row, call: &str) {
     match call {
-        "write_content" => descriptors::content(row),
-        "write_parental_rating" => descriptors::parental_rating(row),
-        "write_short_event" => descriptors::short_event(row),
-        "write_extended_event" => descriptors::extended_event(row),
-        "event_len" => descriptors::event_size(row),
-        "write_event_descriptors" => descriptors::event_descriptors(row),
-        "event_descriptor_sizes" => descriptors::event_sizes(row),
+        "write_content" => event_descriptors::content(row),
+        "write_parental_rating" => event_descriptors::parental_rating(row),
+        "write_short_event" => event_descriptors::short_event(row),
+        "write_extended_event" => event_descriptors::extended_event(row),
+        "event_len" => event_descriptors::event_size(row),
+        "write_event_descriptors" => event_descriptors::event_descriptors(row),
+        "event_descriptor_sizes" => event_descriptors::event_sizes(row),
         _ => {
             let bytes = row.bytes();
             readings::read(row, call, &bytes);

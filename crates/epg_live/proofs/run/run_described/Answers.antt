@@ -6,7 +6,7 @@ use Rattle.mux_config.proofs.Reading.{read_sound}
 use Rattle.command_words.specs.Commands.{texts}
 use Rattle.headend_jobs.specs.Jobs.{streams}
 use Rattle.std.specs.List.{AllByRecursion}
-use Rattle.headend_live.specs.declared.watched.LivePlan.{LivePlan}
+use Rattle.headend_live.specs.declared.live.LivePlan.{LivePlan}
 use Rattle.headend_live.specs.Viewing.{IsServiceOf}
 use Rattle.epg_report.specs.declared.status.Status.{Status}
 use Rattle.epg_report.specs.Told.{asked, gave, told}

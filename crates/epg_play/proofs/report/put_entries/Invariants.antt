@@ -1,6 +1,6 @@
 use Rattle.std.proofs.Common.{◌≡◌, ◌++◌, take}
 use Rattle.journal_text.specs.Entries.{journal_text}
-use Rattle.desk_checkpoint.specs.Going.{all_raised}
+use Rattle.journal_model.specs.Raising.{all_raised}
 use Rattle.epg_play.proofs.report.put_entries.Given as goal
 
 abbrev pub invariant-loop-entry : goal.invariant-loop-entry

@@ -8,7 +8,7 @@ use Rattle.mux_model.specs.declared.mux.Mux.{Mux}
 use Rattle.journal_model.specs.declared.step.Entry.{Entry}
 use Rattle.desk_core.specs.Journal.{Legal}
 use Rattle.journal_text.specs.Entries.{journal_text}
-use Rattle.desk_checkpoint.specs.Going.{all_raised}
+use Rattle.journal_model.specs.Raising.{all_raised}
 use Rattle.epg_play.specs.Courses.{CanBeWritten}
 use Rattle.epg_play.proofs.WrittenFacts.{entries_written}
 use Rattle.epg_play.proofs.report.put_journal.Goals as goal

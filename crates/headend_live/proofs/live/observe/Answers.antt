@@ -1,7 +1,7 @@
 use Rattle.std.proofs.Common.{true, refl, sym, ◌∙◌}
 use Rattle.headend_jobs.specs.declared.live.LiveStop.TheVariants as live
 use Rattle.headend_live.proofs.Watching.{not_told, told_all}
-use Rattle.headend_live.proofs.watched.observe.Goals as goal
+use Rattle.headend_live.proofs.live.observe.Goals as goal
 
 pub returns-in-Some-clause-told : goal.returns-in-Some-clause-told
 returns-in-Some-clause-told c = not_told c.args.log.now c.args.stop c.in-Some.stop c.args.log.now.wanting c.stopped.result (λ e. e) (sym c.watched_stop.ensures ∙ c.in-Some.is) c.stopped.ensures

@@ -2,7 +2,7 @@ use Rattle.std.proofs.Common.{rules}
 use Rattle.headend_jobs.specs.Jobs.{streams}
 use Rattle.headend_jobs.specs.Ran.{taken}
 use Rattle.headend_live.proofs.Watching.{end_kept, end_ran, end_sent}
-use Rattle.headend_live.proofs.watched.run_live.Goals as goal
+use Rattle.headend_live.proofs.live.run_live.Goals as goal
 
 pub returns-clause-ran : goal.returns-clause-ran
 returns-clause-ran g c =

@@ -1,5 +1,5 @@
 use Rattle.std.proofs.Common.{false, refl}
-use Rattle.headend_live.proofs.watched.observe_all.Goals as goal
+use Rattle.headend_live.proofs.live.observe_all.Goals as goal
 
 pub returns-clause-told : goal.returns-clause-told
 returns-clause-told c = λ heard. record {

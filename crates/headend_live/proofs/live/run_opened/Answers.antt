@@ -6,7 +6,7 @@ use Rattle.headend_jobs.specs.Ran.{HallRan, taken}
 use Rattle.headend_live.specs.Viewing.{AreViewed, asked_for}
 use Rattle.headend_live.proofs.Viewed.{views_asked, views_ready}
 use Rattle.headend_live.proofs.Watching.{log_heard, watched_ran}
-use Rattle.headend_live.proofs.watched.run_opened.Goals as goal
+use Rattle.headend_live.proofs.live.run_opened.Goals as goal
 
 pub returns-in-Ok-clause-ran : goal.returns-in-Ok-clause-ran
 returns-in-Ok-clause-ran g c =

@@ -1,9 +1,8 @@
 // Outcomes with the numbers of publications of the journal that goes on.
 ghost use Rattle.std.specs.Prelude.{◌≡◌, ◌+◌, ◌<◌, ◌^◌, IsTrue};
-ghost use Rattle.desk_checkpoint.specs.Going.{raised};
-ghost use Rattle.desk_checkpoint.specs.Raising.{CanBeRaised};
+ghost use Rattle.journal_model.specs.Raising.{CanBeRaised, raised};
 
-use journal_model::Outcome;
+use crate::step::Outcome;
 
 /// The outcome with the number of its publication raised by the shift. It needs a number that stays one of 64 bits.
 pub fn raise(outcome: Outcome, shift: u64) -> Outcome
