@@ -73,7 +73,7 @@ class Budget(unittest.TestCase):
         some = {crate: count for crate, count in counts.items() if count}
         self.assertLessEqual(len(some), 20, "crates with edits")
         self.assertLessEqual(sum(some.values()), 80, "edits")
-        self.assertEqual([crate for crate, count in some.items() if not 3 <= count <= 7], [])
+        self.assertEqual([crate for crate, count in some.items() if not 3 <= count <= 6], [])
 
 
 class Results(unittest.TestCase):

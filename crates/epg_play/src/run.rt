@@ -203,11 +203,11 @@ pub fn run_folded<S: Source, A: Sink, R: Sink>(
     ensures run { FoldRan S.left S.faults input.old input.new
         A.written A.faults air.old air.new R.written R.faults report.old report.new result }
 {
-    let how = PlayAs {
+    let folded = PlayAs {
         fold: true,
         long: false,
     };
-    run_play_as(alloc, how, input, air, report)
+    run_play_as(alloc, folded, input, air, report)
 }
 
 /// Plays the script of the input from the checkpoint in the file of this path as [`run_resumed`]
