@@ -1,12 +1,15 @@
 """What tools/wrong-bodies finds dead, what it reads of rt's words, and the file that it keeps."""
 from __future__ import annotations
 
+import contextlib
 import importlib.machinery
 import importlib.util
+import io
 import os
 import sys
 import tempfile
 import unittest
+import unittest.mock
 from types import ModuleType
 
 TOP = os.path.dirname(os.path.dirname(os.path.dirname(os.path.abspath(__file__))))
@@ -86,8 +89,21 @@ class Results(unittest.TestCase):
         self.assertEqual((row.refused, row.by_name, row.missed, row.untried), (2, 1, ["three"], ["four", "five"]))
 
     def test_a_run_that_was_broken_off(self) -> None:
-        self.assertFalse(bodies.is_whole(SAID))
-        self.assertTrue(bodies.is_whole(SAID + "12 passed, 1 failed (a and the crates below alone: not the gate)\n"))
+        edits = ["a/one", "a/two", "a/three", "a/four", "b/one"]
+        self.assertTrue(bodies.is_whole(SAID, edits))
+        self.assertFalse(bodies.is_whole(SAID, [*edits, "b/two"]))
+        self.assertTrue(bodies.is_whole(SAID + "12 passed, 1 failed (a and the crates below alone: not the gate)\n", [*edits, "b/two"]))
+
+    def test_names_where_rt_ci_takes_none(self) -> None:
+        for status, asked in ((1, ["ci a b"]), (2, ["ci a b", "must-fail a b"])):
+            with tempfile.TemporaryDirectory() as room:
+                write(f"{room}/bin/rt", f"#!/bin/sh\necho \"$*\" >> '{room}/asked'\necho said\ntest \"$1\" = must-fail || exit {status}\n")
+                os.chmod(f"{room}/bin/rt", 0o755)
+                path = {"PATH": f"{room}/bin{os.pathsep}{os.environ['PATH']}"}
+                with unittest.mock.patch.dict(os.environ, path), contextlib.redirect_stdout(io.StringIO()):
+                    self.assertEqual(bodies.output_of(["a", "b"], room, 0), "said\n")
+                with open(f"{room}/asked", encoding="utf-8") as file:
+                    self.assertEqual(file.read().splitlines(), asked)
 
     def test_line_is_read_back(self) -> None:
         self.assertEqual(bodies.read_line(bodies.line_of(self.row())), [self.row()])
