@@ -147,6 +147,15 @@ class Loss(NamedTuple):
     pid: int
 
 
+class Descriptor(NamedTuple):
+    """A descriptor that `listen --details` printed: the word of the line that it belongs to, `program` for those of a programme, its tag and
+    its body."""
+
+    place: str
+    tag: int
+    body: bytes
+
+
 class Junk(NamedTuple):
     """Bytes that `listen --resync` passed over before a packet, or at the end of the recording."""
 
@@ -165,6 +174,7 @@ class Heard:
     cable: Optional[Cable] = None
     services: List[Service] = field(default_factory=list)
     others: List[Other] = field(default_factory=list)
+    descriptors: List[Descriptor] = field(default_factory=list)
     wanting: List[Tuple[str, ...]] = field(default_factory=list)
     completions: List[Completion] = field(default_factory=list)
     losses: List[Loss] = field(default_factory=list)
@@ -235,15 +245,25 @@ def read_local_time(fields: List[str]) -> LocalTime:
     return LocalTime(country, int(region), side == "behind", int(minutes), read_moment(change) if change else None, int(next_minutes), time)
 
 
+def read_descriptor(place: str, fields: List[str]) -> Descriptor:
+    (digits,) = fields
+    whole = bytes.fromhex(digits)
+    if len(whole) < 2 or len(whole) != 2 + whole[1]:
+        raise ValueError(f"{digits!r} is no whole descriptor")
+    return Descriptor(place, whole[0], whole[2:])
+
+
 class Reader:
     """Takes the lines of a report one by one."""
 
     def __init__(self) -> None:
         self.heard = Heard()
+        self._place = ""
         self._words: Dict[str, Callable[[List[str]], None]] = {
             "done": self._done, "lost": self._lost, "junk": self._junk, "clock": self._clock, "local": self._local, "network": self._network,
             "stream": self._stream, "cable": self._cable, "service": self._service, "component": self._component, "other": self._other,
             "remote": self._remote, "now": self._now, "next": self._next, "event": self._event, "wanting": self._wanting, "end": self._end,
+            "descriptor": self._descriptor, "program": self._program,
         }
 
     def take(self, line: str) -> None:
@@ -253,6 +273,8 @@ class Reader:
             self.heard.fault = line[len("fault: "):]
         elif word in self._words:
             self._words[word](fields)
+            if word not in ("descriptor", "program"):
+                self._place = word
         elif line:
             self.heard.passed_over += 1
 
@@ -319,6 +341,12 @@ class Reader:
 
     def _event(self, fields: List[str]) -> None:
         self._last_service().events.append(read_event(fields))
+
+    def _descriptor(self, fields: List[str]) -> None:
+        self.heard.descriptors.append(read_descriptor(self._place, fields))
+
+    def _program(self, fields: List[str]) -> None:
+        self.heard.descriptors.append(read_descriptor("program", fields))
 
     def _wanting(self, fields: List[str]) -> None:
         if not fields:
@@ -400,6 +428,7 @@ def heard_json(heard: Heard) -> Dict[str, object]:
         "cable": heard.cable._asdict() if heard.cable else None,
         "services": [service_json(service) for service in heard.services],
         "others": [other_json(other) for other in heard.others],
+        "descriptors": [{"place": desc.place, "tag": desc.tag, "body": desc.body.hex()} for desc in heard.descriptors],
         "completions": [done._asdict() for done in heard.completions],
         "losses": [loss._asdict() for loss in heard.losses],
         "junk": [junk._asdict() for junk in heard.junk],

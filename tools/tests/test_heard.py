@@ -4,7 +4,7 @@ import unittest
 from datetime import datetime, timedelta, timezone
 
 from examples import stored_lines
-from heard import Genre, HeardError, heard_json, lines_of, read_heard
+from heard import Descriptor, Genre, HeardError, heard_json, lines_of, read_heard
 
 EVENT = "14\t2026-11-30T20:00:00Z\t01:30:00\teng\tThe Lighthouse\tDrama\tTwo keepers\tGBR\t12\t1.0.0 7.0.15"
 LINES = ["done\t5\t18\t78\t101\t7\t65281\t3", "lost\t9\t18", "clock\t2026-11-30T20:20:00Z",
@@ -59,6 +59,17 @@ class Lines(unittest.TestCase):
         heard = read_heard(stored_lines("play < week.txt"))
         self.assertEqual((heard.is_whole, heard.passed_over, len(heard.completions)), (True, 0, 20))
         self.assertEqual([(service.id, len(service.events)) for service in heard.services], [(101, 28), (102, 14), (103, 2)])
+
+    def test_details(self) -> None:
+        """Lines of `listen --details` over a recording that libdvbpsi made, and one of a programme."""
+        lines = ["service\t101\t1\t\tOne\t256\t257", "program\t09040b00e5dc", "component\t6\t258\tdeu", "descriptor\t6a028042",
+                 "other\t300\t1\t3540000\t3\t69000\t2\t15", "descriptor\t830306a501"]
+        self.assertEqual(read_heard(lines).descriptors, [
+            Descriptor("program", 0x09, bytes.fromhex("0b00e5dc")), Descriptor("component", 0x6A, bytes.fromhex("8042")),
+            Descriptor("other", 0x83, bytes.fromhex("06a501"))])
+        for digits in ("83", "8302ff", "8301ffff", "8x00"):
+            with self.assertRaises(HeardError):
+                read_heard(["descriptor\t" + digits])
 
     def test_what_is_wanting(self) -> None:
         heard = read_heard(["wanting\tpat", "wanting\tpmt\t256\t101", "end"])

@@ -38,7 +38,7 @@ said_audit audit = Audit (string_bytes audit.path) audit.nulls
 
 -- the words of this `listen` say this
 abbrev pub options_said : ListenWords → ListenOptions
-options_said listen = record { partial = listen.partial; resync = listen.resync; strict = listen.strict }
+options_said listen = record { details = listen.details; partial = listen.partial; resync = listen.resync; strict = listen.strict }
 
 abbrev pub said_listen : ListenWords → CommandLine
 said_listen listen = Listen (options_said listen)

@@ -93,9 +93,11 @@ view_of (View s) = Some s
 
 -- ---- commands
 
--- how a recording is heard: whether the guide shows also what is held of tables that are not whole, whether sync is sought again where it is
--- lost, and whether a PID is forgotten at each break of its continuity counters
+-- how a recording is heard: whether the guide has also the descriptors that no other line shows whole, whether it shows also what is held of
+-- tables that are not whole, whether sync is sought again where it is lost, and whether a PID is forgotten at each break of its continuity
+-- counters
 pub record ListenOptions : Type 0 where
+  pub details : Bool
   pub partial : Bool
   pub resync : Bool
   pub strict : Bool
@@ -145,16 +147,17 @@ abbrev pub times : List ℕ → List (List ℕ) → ℕ
 times name words = count_by (λ word. bytes_eq word name) words
 
 -- the options of `listen` by how often each stands: each at most once, and no other word among so many
-abbrev pub listen_with : ℕ → ℕ → ℕ → ℕ → Option CommandLine
-listen_with partial resync strict all =
-    if nat_le partial 1 && (nat_le resync 1 && (nat_le strict 1 && (partial + resync + strict == all)))
-    then Some (Listen (record { partial = partial == 1; resync = resync == 1; strict = strict == 1 }))
+abbrev pub listen_with : ℕ → ℕ → ℕ → ℕ → ℕ → Option CommandLine
+listen_with details partial resync strict all =
+    if nat_le details 1 && (nat_le partial 1 && (nat_le resync 1 && (nat_le strict 1 && (details + partial + resync + strict == all))))
+    then Some (Listen (record { details = details == 1; partial = partial == 1; resync = resync == 1; strict = strict == 1 }))
     else None
 
--- `--partial`, `--resync` and `--strict`, each at most once, in any order
+-- `--details`, `--partial`, `--resync` and `--strict`, each at most once, in any order
 abbrev pub listen_of : List (List ℕ) → Option CommandLine
 listen_of words =
-    listen_with (times (codes "--partial") words) (times (codes "--resync") words) (times (codes "--strict") words) (length words)
+    listen_with (times (codes "--details") words) (times (codes "--partial") words) (times (codes "--resync") words) (times (codes "--strict") words)
+    (length words)
 
 -- one word, the number of a load
 abbrev pub soak_of : List (List ℕ) → Option CommandLine

@@ -199,17 +199,23 @@ audit_without_path : command_of (codes "audit" ∷ codes "--air" ∷ codes "--nu
 audit_without_path = refl
 
 -- the options of `listen`, in any order, each at most once
-listen : command_of (codes "listen" ∷ []) ≡ Some (Listen (record { partial = false; resync = false; strict = false }))
+listen : command_of (codes "listen" ∷ []) ≡ Some (Listen (record { details = false; partial = false; resync = false; strict = false }))
 listen = refl
 
-listen_both : command_of (codes "listen" ∷ codes "--strict" ∷ codes "--resync" ∷ []) ≡ Some (Listen (record { partial = false; resync = true; strict = true }))
+listen_both : command_of (codes "listen" ∷ codes "--strict" ∷ codes "--resync" ∷ []) ≡ Some (Listen (record { details = false; partial = false; resync = true; strict = true }))
 listen_both = refl
 
-listen_partial : command_of (codes "listen" ∷ codes "--partial" ∷ []) ≡ Some (Listen (record { partial = true; resync = false; strict = false }))
+listen_partial : command_of (codes "listen" ∷ codes "--partial" ∷ []) ≡ Some (Listen (record { details = false; partial = true; resync = false; strict = false }))
 listen_partial = refl
 
-listen_all : command_of (codes "listen" ∷ codes "--resync" ∷ codes "--strict" ∷ codes "--partial" ∷ []) ≡ Some (Listen (record { partial = true; resync = true; strict = true }))
+listen_all : command_of (codes "listen" ∷ codes "--resync" ∷ codes "--strict" ∷ codes "--partial" ∷ []) ≡ Some (Listen (record { details = false; partial = true; resync = true; strict = true }))
 listen_all = refl
+
+listen_details : command_of (codes "listen" ∷ codes "--strict" ∷ codes "--details" ∷ []) ≡ Some (Listen (record { details = true; partial = false; resync = false; strict = true }))
+listen_details = refl
+
+listen_details_twice : command_of (codes "listen" ∷ codes "--details" ∷ codes "--details" ∷ []) ≡ None
+listen_details_twice = refl
 
 listen_twice : command_of (codes "listen" ∷ codes "--strict" ∷ codes "--strict" ∷ []) ≡ None
 listen_twice = refl

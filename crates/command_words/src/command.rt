@@ -48,7 +48,7 @@ pub enum WordsStop {
 
 /// The command that words spell; the program's name is not among them.
 ///
-/// `listen` has, in any order, `--partial`, `--resync` and `--strict`, each at most once. `play` has, in any order, `--fold`,
+/// `listen` has, in any order, `--details`, `--partial`, `--resync` and `--strict`, each at most once. `play` has, in any order, `--fold`,
 /// `--follow`, `--keep-going`, `--long` and `--resume PATH`, each at most once; `--follow` does not stand with `--fold`, and
 /// `--keep-going` stands only with `--follow`, which implies `--long`. `soak` has the number of its load, 0 to 999,999,999. `live` has, in any order,
 /// `--feed PATH` 1 to 16 times, `--cycles N` once, `--join J` once and `--view SERVICE`, 0 to 65,535, at most 8 times.

@@ -3,7 +3,7 @@ use Rattle.std.proofs.Common.{◌≡◌, ℕ, ◌+◌, ◌<◌, ◌≤◌, List,
 use Rattle.std.specs.List.{flat_map}
 use Rattle.std.proofs.lemmas.List.{append-nil}
 use Rattle.si_lists.proofs.Lists.{same_parts}
-use Rattle.descriptors.specs.declared.descriptors.RawDesc.{RawDesc}
+use Rattle.guide_model.specs.declared.descriptor.RawDesc.{RawDesc}
 use Rattle.descriptors.specs.Descriptors.{descriptor_bytes, AreDescriptors, DescriptorsAreUnique}
 
 same_desc : (a b : RawDesc) → a.tag ≡ b.tag → a.body ≡ b.body → a ≡ b

@@ -1,11 +1,11 @@
 -- Entries of languages and of services, written and read one after the other.
-use Rattle.std.proofs.Common.{◌≡◌, ◌∙◌, ℕ, ◌+◌, ◌*◌, ◌/◌, ◌%◌, ◌<◌, List, [], ◌∷◌, ◌++◌, length, Some, refl, sym, ap, subst, arith, length-append}
+use Rattle.std.proofs.Common.{◌≡◌, ◌∙◌, ℕ, ◌+◌, ◌*◌, ◌/◌, ◌%◌, List, [], ◌∷◌, ◌++◌, length, Some, refl, sym, ap, subst, arith, length-append}
 use Rattle.std.specs.Option.{option_map}
 use Rattle.std.specs.List.{AllByRecursion}
 use Rattle.si_lists.proofs.Lists.{three_of}
 use Rattle.descriptors.specs.declared.service_list.ServiceKind.{ServiceKind}
 use Rattle.descriptors.specs.Languages.{languages_body, languages_in, LanguagesReadBack}
-use Rattle.descriptors.specs.ServiceList.{service_list_body, service_list_in, kind_of, ServiceListReadsBack}
+use Rattle.descriptors.specs.ServiceList.{service_list_body, kind_of, ServiceListReadsBack}
 
 pub length-languages_body : (languages : List (List ℕ)) → AllByRecursion (λ language. length language ≡ 3) languages → length (languages_body languages) ≡ 4 * length languages
 length-languages_body [] three = refl

@@ -2,7 +2,7 @@
 use Rattle.std.specs.Prelude.{◌≡◌, ℕ, ◌<◌, List, ◌∷◌, length}
 use Rattle.std.specs.List.{flat_map, AllByRecursion}
 use Rattle.descriptors.specs.Lengths.{with_length}
-use Rattle.descriptors.specs.declared.descriptors.RawDesc.{RawDesc}
+use Rattle.guide_model.specs.declared.descriptor.RawDesc.{RawDesc}
 
 -- a descriptor as it is written: descriptor_tag 8, descriptor_length 8, body
 abbrev pub descriptor : ℕ → List ℕ → List ℕ

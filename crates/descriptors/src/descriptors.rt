@@ -1,19 +1,11 @@
 // Descriptors, one after the other.
 ghost use Rattle.std.specs.Prelude.{◌≡◌, List, IfOk, IfSome, IfNone};
+ghost use Rattle.guide_model.specs.declared.descriptor.RawDesc.{RawDesc};
 ghost use Rattle.descriptors.specs.Descriptors.{AreDescriptors};
 
-use si_base::{Bytes, Items};
+use guide_model::{RawDesc, RawDescs};
+use si_base::Items;
 use std::alloc::{AllocError, Global};
-
-/// A descriptor: descriptor_tag and the bytes behind descriptor_length (EN 300 468, 6.1).
-#[derive(Drop)]
-pub struct RawDesc {
-    pub tag: u8,
-    pub body: Bytes,
-}
-
-/// Descriptors in the order in which they stand.
-pub type RawDescs = Items<RawDesc>;
 
 /// The descriptors that these bytes are, in order, or `None` exactly where a descriptor_length runs past the end or
 /// is missing (EN 300 468, 6.1).

@@ -40,7 +40,7 @@ mod short_event;
 pub use cable_delivery::{read_cable_delivery_system, write_cable_delivery_system};
 pub use coded::{Coded, no_text};
 pub use content::{read_content, write_content};
-pub use descriptors::{RawDesc, RawDescs, read_descriptors};
+pub use descriptors::read_descriptors;
 pub use event_descriptors::{event_len, write_event_descriptors};
 pub use event_laws::written_event_descriptors_read_back;
 pub use extended_event::{ExtendedPiece, read_extended_event, write_extended_event};

@@ -105,11 +105,11 @@ heard_line resync strict stop.Report bytes left stands heard p found a b c came 
 -- ---- the run is over
 
 -- the guide was reported by a text that is the guide's, or a proper front of it
-pub guide_told : (partial strict : Bool) (h : History) (old new : Option (List ℕ)) (text : List ℕ) → text ≡ heard_guide partial strict h → Appends old new text → Appends old new (heard_guide partial strict h)
-guide_told partial strict h old new text e told = subst (Appends old new) e told
+pub guide_told : (how : ListenOptions) (strict : Bool) (h : History) (old new : Option (List ℕ)) (text : List ℕ) → text ≡ heard_guide how strict h → Appends old new text → Appends old new (heard_guide how strict h)
+guide_told how strict h old new text e told = subst (Appends old new) e told
 
-pub guide_front : (partial strict : Bool) (h : History) (old new : Option (List ℕ)) (text : List ℕ) → text ≡ heard_guide partial strict h → AppendsFront old new text → AppendsFront old new (heard_guide partial strict h)
-guide_front partial strict h old new text e told = subst (AppendsFront old new) e told
+pub guide_front : (how : ListenOptions) (strict : Bool) (h : History) (old new : Option (List ℕ)) (text : List ℕ) → text ≡ heard_guide how strict h → AppendsFront old new text → AppendsFront old new (heard_guide how strict h)
+guide_front how strict h old new text e told = subst (AppendsFront old new) e told
 
 -- what is reported behind something that was written
 behind : (a b c : Option (List ℕ)) (f g h : ℕ) (xs ys : List ℕ) → f ≤ g → Appends a b xs → Reported (record { old = b; new = c; faults_old = g; faults_new = h }) ys
@@ -118,13 +118,13 @@ behind a b c f g h xs ys le done (inl all) = inl (Appends-trans a b c xs ys done
 behind a b c f g h xs ys le done (inr (rose, front)) = inr (Rose-from f g h le rose, front_behind a b c xs ys done front)
 
 pub leaves_heard : (how : ListenOptions) (heard : Result (Unit {0}) ListenStop) (bytes : List ℕ) (left : Option (List ℕ)) (stands : History → Type 0) (old mid new : Option (List ℕ)) (f g h : ℕ) (status : Status) → f ≤ g → HasHeard how.resync how.strict bytes left stands old mid heard
-    → EndsHeard how.partial how.strict stands heard (record { old = mid; new = new; faults_old = g; faults_new = h }) status → LeavesHeard how bytes left (record { old = old; new = new; faults_old = f; faults_new = h }) status
+    → EndsHeard how how.strict stands heard (record { old = mid; new = new; faults_old = g; faults_new = h }) status → LeavesHeard how bytes left (record { old = old; new = new; faults_old = f; faults_new = h }) status
 leaves_heard how (Ok u) bytes left stands old mid new f g h Done le (ended, done, is, few) ends =
     let pieces = (pieces_in how.resync bytes).0 in
-    record { ended = ended; few = few; report_is = Appends-trans old mid new (heard_text how.strict pieces) (heard_guide how.partial how.strict (heard_of how.strict pieces)) done (ends (heard_of how.strict pieces) is) }
+    record { ended = ended; few = few; report_is = Appends-trans old mid new (heard_text how.strict pieces) (heard_guide how how.strict (heard_of how.strict pieces)) done (ends (heard_of how.strict pieces) is) }
 leaves_heard how (Ok u) bytes left stands old mid new f g h (WriteFault Report) le (ended, done, is, few) ends =
     let pieces = (pieces_in how.resync bytes).0 in
-    inr (ended, front_behind old mid new (heard_text how.strict pieces) (heard_guide how.partial how.strict (heard_of how.strict pieces)) done (ends.0 (heard_of how.strict pieces) is))
+    inr (ended, front_behind old mid new (heard_text how.strict pieces) (heard_guide how how.strict (heard_of how.strict pieces)) done (ends.0 (heard_of how.strict pieces) is))
 leaves_heard how (Ok u) bytes left stands old mid new f g h Memory le has ends = tt
 leaves_heard how (Ok u) bytes left stands old mid new f g h other le has ends = absurd ends
 leaves_heard how (Err stop.Memory) bytes left stands old mid new f g h status le has ends = subst (LeavesHeard how bytes left (record { old = old; new = new; faults_old = f; faults_new = h })) (sym ends) tt
@@ -170,14 +170,14 @@ stop_of_listen : (s : PacketStop) → IsOfListen (packet_stop_status s)
 stop_of_listen (packet.Broken n) = tt
 stop_of_listen other = tt
 
-pub of_listen : (partial strict : Bool) (stands : History → Type 0) (heard : Result (Unit {0}) ListenStop) (t : ReportTaken) (status : Status) → EndsHeard partial strict stands heard t status → IsOfListen status
-of_listen partial strict stands (Ok u) t Done ends = tt
-of_listen partial strict stands (Ok u) t (WriteFault Report) ends = tt
-of_listen partial strict stands (Ok u) t Memory ends = tt
-of_listen partial strict stands (Ok u) t other ends = absurd ends
-of_listen partial strict stands (Err stop.Report) t status ends = subst IsOfListen (sym ends.0) tt
-of_listen partial strict stands (Err stop.Memory) t status ends = subst IsOfListen (sym ends) tt
-of_listen partial strict stands (Err (stop.TooMany n)) t status (inl memory) = subst IsOfListen (sym memory) tt
-of_listen partial strict stands (Err (stop.TooMany n)) t status (inr (is, reported)) = subst IsOfListen (sym is) tt
-of_listen partial strict stands (Err (stop.Read s)) t status (inl memory) = subst IsOfListen (sym memory) tt
-of_listen partial strict stands (Err (stop.Read s)) t status (inr (is, reported)) = subst IsOfListen (sym is) (stop_of_listen s)
+pub of_listen : (how : ListenOptions) (strict : Bool) (stands : History → Type 0) (heard : Result (Unit {0}) ListenStop) (t : ReportTaken) (status : Status) → EndsHeard how strict stands heard t status → IsOfListen status
+of_listen how strict stands (Ok u) t Done ends = tt
+of_listen how strict stands (Ok u) t (WriteFault Report) ends = tt
+of_listen how strict stands (Ok u) t Memory ends = tt
+of_listen how strict stands (Ok u) t other ends = absurd ends
+of_listen how strict stands (Err stop.Report) t status ends = subst IsOfListen (sym ends.0) tt
+of_listen how strict stands (Err stop.Memory) t status ends = subst IsOfListen (sym ends) tt
+of_listen how strict stands (Err (stop.TooMany n)) t status (inl memory) = subst IsOfListen (sym memory) tt
+of_listen how strict stands (Err (stop.TooMany n)) t status (inr (is, reported)) = subst IsOfListen (sym is) tt
+of_listen how strict stands (Err (stop.Read s)) t status (inl memory) = subst IsOfListen (sym memory) tt
+of_listen how strict stands (Err (stop.Read s)) t status (inr (is, reported)) = subst IsOfListen (sym is) (stop_of_listen s)

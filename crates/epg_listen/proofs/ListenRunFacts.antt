@@ -42,36 +42,36 @@ not_written (packet.Broken n) e = cc
 not_written packet.TooLong e = cc
 not_written packet.Failed e = cc
 
-at_end : (partial strict : Bool) (stands : History → Type 0) (r : Result (Unit {0}) ListenStop) (report : ReportTaken) (status : Status) (P : Type 0) → EndsHeard partial strict stands r report status → OnOk r P → status ≡ Done → P
-at_end partial strict stands (Ok u) report status P ends end e = end
-at_end partial strict stands (Err (stop.Read s)) report status P (inl memory) end e = cc
-at_end partial strict stands (Err (stop.Read s)) report status P (inr (is, told)) end e = absurd (not_done s (sym is ∙ e))
-at_end partial strict stands (Err (stop.TooMany n)) report status P (inl memory) end e = cc
-at_end partial strict stands (Err (stop.TooMany n)) report status P (inr (is, told)) end e = cc
-at_end partial strict stands (Err stop.Report) report status P (is, same) end e = cc
-at_end partial strict stands (Err stop.Memory) report status P is end e = cc
+at_end : (how : ListenOptions) (strict : Bool) (stands : History → Type 0) (r : Result (Unit {0}) ListenStop) (report : ReportTaken) (status : Status) (P : Type 0) → EndsHeard how strict stands r report status → OnOk r P → status ≡ Done → P
+at_end how strict stands (Ok u) report status P ends end e = end
+at_end how strict stands (Err (stop.Read s)) report status P (inl memory) end e = cc
+at_end how strict stands (Err (stop.Read s)) report status P (inr (is, told)) end e = absurd (not_done s (sym is ∙ e))
+at_end how strict stands (Err (stop.TooMany n)) report status P (inl memory) end e = cc
+at_end how strict stands (Err (stop.TooMany n)) report status P (inr (is, told)) end e = cc
+at_end how strict stands (Err stop.Report) report status P (is, same) end e = cc
+at_end how strict stands (Err stop.Memory) report status P is end e = cc
 
-read_rose : (partial strict : Bool) (stands : History → Type 0) (r : Result (Unit {0}) ListenStop) (report : ReportTaken) (status : Status) (before now : ℕ) → EndsHeard partial strict stands r report status → HasReadCause before now r → status ≡ ReadFault Input → Rose before now
-read_rose partial strict stands (Ok u) report status before now ends cause e = absurd (subst (EndsHeard partial strict stands (Ok u) report) e ends)
-read_rose partial strict stands (Err (stop.Read (packet.Broken n))) report status before now (inl memory) cause e = cc
-read_rose partial strict stands (Err (stop.Read (packet.Broken n))) report status before now (inr (is, told)) cause e = cc
-read_rose partial strict stands (Err (stop.Read packet.TooLong)) report status before now (inl memory) cause e = cc
-read_rose partial strict stands (Err (stop.Read packet.TooLong)) report status before now (inr (is, told)) cause e = cc
-read_rose partial strict stands (Err (stop.Read packet.Failed)) report status before now ends cause e = cause
-read_rose partial strict stands (Err (stop.TooMany n)) report status before now (inl memory) cause e = cc
-read_rose partial strict stands (Err (stop.TooMany n)) report status before now (inr (is, told)) cause e = cc
-read_rose partial strict stands (Err stop.Report) report status before now (is, same) cause e = cc
-read_rose partial strict stands (Err stop.Memory) report status before now is cause e = cc
+read_rose : (how : ListenOptions) (strict : Bool) (stands : History → Type 0) (r : Result (Unit {0}) ListenStop) (report : ReportTaken) (status : Status) (before now : ℕ) → EndsHeard how strict stands r report status → HasReadCause before now r → status ≡ ReadFault Input → Rose before now
+read_rose how strict stands (Ok u) report status before now ends cause e = absurd (subst (EndsHeard how strict stands (Ok u) report) e ends)
+read_rose how strict stands (Err (stop.Read (packet.Broken n))) report status before now (inl memory) cause e = cc
+read_rose how strict stands (Err (stop.Read (packet.Broken n))) report status before now (inr (is, told)) cause e = cc
+read_rose how strict stands (Err (stop.Read packet.TooLong)) report status before now (inl memory) cause e = cc
+read_rose how strict stands (Err (stop.Read packet.TooLong)) report status before now (inr (is, told)) cause e = cc
+read_rose how strict stands (Err (stop.Read packet.Failed)) report status before now ends cause e = cause
+read_rose how strict stands (Err (stop.TooMany n)) report status before now (inl memory) cause e = cc
+read_rose how strict stands (Err (stop.TooMany n)) report status before now (inr (is, told)) cause e = cc
+read_rose how strict stands (Err stop.Report) report status before now (is, same) cause e = cc
+read_rose how strict stands (Err stop.Memory) report status before now is cause e = cc
 
-report_rose : (partial strict : Bool) (stands : History → Type 0) (r : Result (Unit {0}) ListenStop) (report : ReportTaken) (status : Status) (before : ℕ) → before ≤ report.faults_old → report.faults_old ≤ report.faults_new
-    → EndsHeard partial strict stands r report status → HasReportCause before report.faults_old r → status ≡ WriteFault Report → Rose before report.faults_new
-report_rose partial strict stands (Ok u) report status before le later ends cause e = Rose-from before report.faults_old report.faults_new le (subst (EndsHeard partial strict stands (Ok u) report) e ends).1
-report_rose partial strict stands (Err (stop.Read s)) report status before le later (inl memory) cause e = cc
-report_rose partial strict stands (Err (stop.Read s)) report status before le later (inr (is, told)) cause e = absurd (not_written s (sym is ∙ e))
-report_rose partial strict stands (Err (stop.TooMany n)) report status before le later (inl memory) cause e = cc
-report_rose partial strict stands (Err (stop.TooMany n)) report status before le later (inr (is, told)) cause e = cc
-report_rose partial strict stands (Err stop.Report) report status before le later ends cause e = Rose-to before report.faults_old report.faults_new le cause later
-report_rose partial strict stands (Err stop.Memory) report status before le later is cause e = cc
+report_rose : (how : ListenOptions) (strict : Bool) (stands : History → Type 0) (r : Result (Unit {0}) ListenStop) (report : ReportTaken) (status : Status) (before : ℕ) → before ≤ report.faults_old → report.faults_old ≤ report.faults_new
+    → EndsHeard how strict stands r report status → HasReportCause before report.faults_old r → status ≡ WriteFault Report → Rose before report.faults_new
+report_rose how strict stands (Ok u) report status before le later ends cause e = Rose-from before report.faults_old report.faults_new le (subst (EndsHeard how strict stands (Ok u) report) e ends).1
+report_rose how strict stands (Err (stop.Read s)) report status before le later (inl memory) cause e = cc
+report_rose how strict stands (Err (stop.Read s)) report status before le later (inr (is, told)) cause e = absurd (not_written s (sym is ∙ e))
+report_rose how strict stands (Err (stop.TooMany n)) report status before le later (inl memory) cause e = cc
+report_rose how strict stands (Err (stop.TooMany n)) report status before le later (inr (is, told)) cause e = cc
+report_rose how strict stands (Err stop.Report) report status before le later ends cause e = Rose-to before report.faults_old report.faults_new le cause later
+report_rose how strict stands (Err stop.Memory) report status before le later is cause e = cc
 
 -- ---- a recording that is whole
 
@@ -147,13 +147,13 @@ listen_memory how input report status e =
 -- A run that heard its recording as far as this (`r`), and then ended its report.
 pub heard_run : (how : ListenOptions) (input : SourceGave) (old mid new : Option (List ℕ)) (f g h : ℕ) (stands : History → Type 0) (r : Result (Unit {0}) ListenStop) (status : Status)
     → ((bytes : List ℕ) → input.old ≡ Some bytes → HasHeard how.resync how.strict bytes input.new stands old mid r) → OnOk r (IsAtEnd input.new) → HasReadCause input.faults_old input.faults_new r → HasReportCause f g r → f ≤ g → g ≤ h
-    → EndsHeard how.partial how.strict stands r (record { old = mid; new = new; faults_old = g; faults_new = h }) status → ListenRun how input (record { old = old; new = new; faults_old = f; faults_new = h }) status
+    → EndsHeard how how.strict stands r (record { old = mid; new = new; faults_old = g; faults_new = h }) status → ListenRun how input (record { old = old; new = new; faults_old = f; faults_new = h }) status
 heard_run how input old mid new f g h stands r status heard end read_cause report_cause le later ends =
     let report : ReportTaken = record { old = old; new = new; faults_old = f; faults_new = h } in
     let last : ReportTaken = record { old = mid; new = new; faults_old = g; faults_new = h } in
     listen_run how input report status
     (λ bytes tells. leaves_heard how r bytes input.new stands old mid new f g h status le (heard bytes tells) ends)
-    (of_listen how.partial how.strict stands r last status ends)
-    (at_end how.partial how.strict stands r last status (IsAtEnd input.new) ends end)
-    (read_rose how.partial how.strict stands r last status input.faults_old input.faults_new ends read_cause)
-    (report_rose how.partial how.strict stands r last status f le later ends report_cause)
+    (of_listen how how.strict stands r last status ends)
+    (at_end how how.strict stands r last status (IsAtEnd input.new) ends end)
+    (read_rose how how.strict stands r last status input.faults_old input.faults_new ends read_cause)
+    (report_rose how how.strict stands r last status f le later ends report_cause)

@@ -9,6 +9,7 @@ use Rattle.packet_finder.specs.Laws.{packets_of}
 use Rattle.packet_finder.specs.declared.found.Found.{Found}
 use Rattle.packet_finder.specs.declared.found.Found.TheVariants as was
 use Rattle.sub_collect.specs.KeyCounts.{HaveTooManyKeys}
+use Rattle.command_words.specs.Grammar.{ListenOptions}
 use Rattle.epg_listen.specs.declared.listen.ListenStop.{ListenStop}
 use Rattle.epg_listen.specs.declared.listen.ListenStop.TheVariants as stop
 use Rattle.epg_report.specs.declared.status.Status.{Status}
@@ -83,14 +84,14 @@ EndsBy fault report status = (status ≡ Memory) ⊎ ((status ≡ fault) × Repo
 
 -- How the report ends, by why the recording was not heard on, and the status. Where it was heard to its end, the guide of what was heard was
 -- reported, or a proper front of it.
-abbrev pub EndsHeard : Bool → Bool → (History → Type 0) → Result (Unit {0}) ListenStop → ReportTaken → Status → Type 0
-EndsHeard partial strict stands (Ok u) report Done = (h : History) → stands h → Appends report.old report.new (heard_guide partial strict h)
-EndsHeard partial strict stands (Ok u) report (WriteFault Report) =
-    ((h : History) → stands h → AppendsFront report.old report.new (heard_guide partial strict h))
+abbrev pub EndsHeard : ListenOptions → Bool → (History → Type 0) → Result (Unit {0}) ListenStop → ReportTaken → Status → Type 0
+EndsHeard how strict stands (Ok u) report Done = (h : History) → stands h → Appends report.old report.new (heard_guide how strict h)
+EndsHeard how strict stands (Ok u) report (WriteFault Report) =
+    ((h : History) → stands h → AppendsFront report.old report.new (heard_guide how strict h))
     × Rose report.faults_old report.faults_new
-EndsHeard partial strict stands (Ok u) report Memory = Unit {0}
-EndsHeard partial strict stands (Ok u) report status = ⊥
-EndsHeard partial strict stands (Err (stop.Read s)) report status = EndsBy (packet_stop_status s) report status
-EndsHeard partial strict stands (Err (stop.TooMany n)) report status = EndsBy (TooMany n) report status
-EndsHeard partial strict stands (Err stop.Report) report status = (status ≡ WriteFault Report) × (report.old ≡ report.new)
-EndsHeard partial strict stands (Err stop.Memory) report status = status ≡ Memory
+EndsHeard how strict stands (Ok u) report Memory = Unit {0}
+EndsHeard how strict stands (Ok u) report status = ⊥
+EndsHeard how strict stands (Err (stop.Read s)) report status = EndsBy (packet_stop_status s) report status
+EndsHeard how strict stands (Err (stop.TooMany n)) report status = EndsBy (TooMany n) report status
+EndsHeard how strict stands (Err stop.Report) report status = (status ≡ WriteFault Report) × (report.old ≡ report.new)
+EndsHeard how strict stands (Err stop.Memory) report status = status ≡ Memory

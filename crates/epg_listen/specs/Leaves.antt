@@ -1,6 +1,6 @@
 -- What a run of `listen` leaves, for each status, and all that it promises, by the options with which it hears. With `--resync` the pieces of
 -- the recording are those that are found in it, and else its packets; with `--strict` their lines are also breaks; with `--partial` the guide
--- shows what is held.
+-- shows what is held, with `--details` also the descriptors that no other line shows whole.
 use Rattle.std.specs.Prelude.{◌≡◌, ℕ, ◌/◌, ◌⊎◌, ◌++◌, List, [], ◌∷◌, Bool, false, length, Option, Some}
 use Rattle.std.specs.Io.KnownBytes.{Appends, IsAtEnd}
 use Rattle.si_causes.specs.Causes.{Rose, AppendsFront}
@@ -22,7 +22,7 @@ use Rattle.epg_listen.specs.Lines.{counted_in, heard_of, heard_text, heard_guide
 
 -- the whole report of a recording of these pieces
 abbrev pub report_of : ListenOptions → List Piece → List ℕ
-report_of how pieces = heard_text how.strict pieces ++ heard_guide how.partial how.strict (heard_of how.strict pieces)
+report_of how pieces = heard_text how.strict pieces ++ heard_guide how how.strict (heard_of how.strict pieces)
 
 -- the status of a stop
 abbrev pub packet_stop_status : PacketStop → Status
@@ -159,4 +159,4 @@ ListenRan how left read_faults input input_then taken report_faults report repor
 
 -- `listen` without a word
 abbrev pub without_options : ListenOptions
-without_options = record { partial = false; resync = false; strict = false }
+without_options = record { details = false; partial = false; resync = false; strict = false }

@@ -13,8 +13,9 @@ use Rattle.guide_parts.specs.PartScreen.{part_guide}
 use Rattle.guide_receiver.specs.Guides.{view_of}
 use Rattle.strict_receiver.specs.Strict.{lost_by}
 use Rattle.strict_receiver.specs.Earlier.{counted_after, strict_dones_after, strict_view_after, taken_after}
-use Rattle.guide_text.specs.Guides.{guide_text}
-use Rattle.guide_parts.specs.PartTexts.{part_text}
+use Rattle.command_words.specs.Grammar.{ListenOptions}
+use Rattle.guide_text.specs.Guides.{guide_text_with}
+use Rattle.guide_parts.specs.PartTexts.{part_text_with}
 
 -- ---- what was heard
 
@@ -94,10 +95,11 @@ taken_heard false h = all_took (counted_heard h.past)
 taken_heard true h = taken_after h.earlier h.past
 
 -- The text of the guide of what was heard whole, and of these sections and marks: with `--partial` what is wanting and all that is held, and
--- else what is wanting or the whole screen.
-abbrev pub guide_shown : Bool → View → List Taken → List ℕ
-guide_shown partial V taken = if partial then part_text (part_guide (parts_over V taken)) else guide_text (shown_of V)
+-- else what is wanting or the whole screen; with `--details` also the descriptors that no other line shows whole.
+abbrev pub guide_shown : ListenOptions → View → List Taken → List ℕ
+guide_shown how V taken =
+    if how.partial then part_text_with how.details (part_guide (parts_over V taken)) else guide_text_with how.details (shown_of V)
 
--- the text of the guide of what was heard, with `--partial` and `--strict` or without
-abbrev pub heard_guide : Bool → Bool → History → List ℕ
-heard_guide partial strict h = guide_shown partial (view_heard strict h) (taken_heard strict h)
+-- the text of the guide of what was heard, with these options, by a receiver that notices losses or by one that does not
+abbrev pub heard_guide : ListenOptions → Bool → History → List ℕ
+heard_guide how strict h = guide_shown how (view_heard strict h) (taken_heard strict h)

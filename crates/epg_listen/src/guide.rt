@@ -7,57 +7,60 @@ ghost use Rattle.guide_parts.specs.Parts.{parts_over};
 ghost use Rattle.guide_parts.specs.PartScreen.{part_guide};
 ghost use Rattle.guide_receiver.specs.Guides.{view_after};
 ghost use Rattle.guide_receiver.specs.Heard.{ReceiverStandsAfter};
-ghost use Rattle.guide_text.specs.Guides.{guide_text};
-ghost use Rattle.guide_parts.specs.PartTexts.{part_text};
+ghost use Rattle.guide_text.specs.Guides.{guide_text_with};
+ghost use Rattle.guide_parts.specs.PartTexts.{part_text_with};
+ghost use Rattle.command_words.specs.Commands.{options_said};
 ghost use Rattle.epg_listen.specs.Lines.{guide_shown};
 
-use guide_parts::{PartGuide, parts_heard, print_parts};
+use command_words::ListenWords;
+use guide_parts::{PartGuide, parts_heard, print_parts_with};
 use guide_receiver::Receiver;
-use guide_text::print_heard;
+use guide_text::print_heard_with;
 use std::alloc::{AllocError, Global};
 
 /// The text of the guide of a receiver: with `partial` what is wanting and all that it holds, or else
-/// what is wanting or the whole screen.
+/// what is wanting or the whole screen; with `details` also the descriptors that no other line shows
+/// whole.
 pub(crate) fn guide_lines(
     alloc: Global,
     receiver: &Receiver,
-    partial: bool,
+    words: ListenWords,
 ) -> Result<Vec<u8>, AllocError>
     ensures { (earlier : List RawSection) (packets : List (List ℕ)) (taken : List Taken)
         → ReceiverStandsAfter earlier packets taken receiver.now
         → IfOk result (λ text. text.items
-        ≡ guide_shown partial (view_after earlier packets taken) taken) }
+        ≡ guide_shown (options_said words) (view_after earlier packets taken) taken) }
 {
-    if partial {
-        part_lines(alloc, receiver)
+    if words.partial {
+        part_lines(alloc, receiver, words.details)
     } else {
-        whole_lines(alloc, receiver)
+        whole_lines(alloc, receiver, words.details)
     }
 }
 
 // The needs that are not met, or else the whole screen.
-fn whole_lines(alloc: Global, receiver: &Receiver) -> Result<Vec<u8>, AllocError>
+fn whole_lines(alloc: Global, receiver: &Receiver, details: bool) -> Result<Vec<u8>, AllocError>
     ensures { (earlier : List RawSection) (packets : List (List ℕ)) (taken : List Taken)
         → ReceiverStandsAfter earlier packets taken receiver.now
         → IfOk result (λ text. text.items
-        ≡ guide_text (heard_of (view_after earlier packets taken))) }
+        ≡ guide_text_with details (heard_of (view_after earlier packets taken))) }
 {
     let heard = receiver.guide()?;
     let mut text = Vec::new(alloc);
-    print_heard(alloc, &heard, &mut text)?;
+    print_heard_with(alloc, details, &heard, &mut text)?;
     Ok(text)
 }
 
 // The needs that are not met, and all that is held.
-fn part_lines(alloc: Global, receiver: &Receiver) -> Result<Vec<u8>, AllocError>
+fn part_lines(alloc: Global, receiver: &Receiver, details: bool) -> Result<Vec<u8>, AllocError>
     ensures { (earlier : List RawSection) (packets : List (List ℕ)) (taken : List Taken)
         → ReceiverStandsAfter earlier packets taken receiver.now
         → IfOk result (λ text. text.items
-        ≡ part_text (part_guide (parts_over (view_after earlier packets taken) taken))) }
+        ≡ part_text_with details (part_guide (parts_over (view_after earlier packets taken) taken))) }
 {
     let parts = parts_of(alloc, receiver)?;
     let mut text = Vec::new(alloc);
-    print_parts(alloc, &parts, &mut text)?;
+    print_parts_with(alloc, details, &parts, &mut text)?;
     Ok(text)
 }
 

@@ -5,6 +5,7 @@ ghost use Rattle.packet_finder.specs.Pieces.{Piece, Piece.Packet, Piece.Junk};
 ghost use Rattle.packet_finder.specs.Laws.{packets_of};
 ghost use Rattle.packet_finder.specs.Finding.{piece_of};
 ghost use Rattle.packet_finder.specs.declared.found.Found.TheVariants as was;
+ghost use Rattle.command_words.specs.Commands.{options_said};
 ghost use Rattle.epg_report.specs.Texts.{fault_line, fault_text};
 ghost use Rattle.epg_report.specs.Told.{told};
 ghost use Rattle.epg_listen.specs.Lines.{History, nothing_heard, after, heard_of, piece_lines};
@@ -15,6 +16,7 @@ ghost use Rattle.epg_listen.specs.Hearing.{ReportsLines, HasHeard, HasReadCause,
 use crate::lines::junk_line_of;
 use crate::listener::Listener;
 use crate::piece_reader::PieceReader;
+use command_words::ListenWords;
 use epg_report::{Origin, Outlet, Status, out_of_memory, put_fault_line};
 use guide_receiver::HearStop;
 use packet_finder::Found;
@@ -176,15 +178,15 @@ fn report_fault<R: Sink>(alloc: Global, fault: Status, report: &mut R) -> Status
 #[tactic(auto, using(crate::proofs::ListenFacts::guide_told, crate::proofs::ListenFacts::guide_front))]
 fn report_guide<L: Listener, R: Sink>(
     alloc: Global,
-    partial: bool,
+    words: ListenWords,
     listener: &L,
     report: &mut R,
 ) -> Status
-    ensures ends { EndsHeard partial L.strict (L.stands listener.now) (Ok tt)
+    ensures ends { EndsHeard (options_said words) L.strict (L.stands listener.now) (Ok tt)
         (told R.written R.faults report.old report.new) result }
     ensures later { R.faults report.old ≤ R.faults report.new }
 {
-    let Ok(text) = listener.guide_text(alloc, partial) else {
+    let Ok(text) = listener.guide_text(alloc, words) else {
         return out_of_memory(report);
     };
     match write_all(report, &text) {
@@ -197,16 +199,16 @@ fn report_guide<L: Listener, R: Sink>(
 pub(crate) fn end_report<L: Listener, R: Sink>(
     alloc: Global,
     heard: Result<(), ListenStop>,
-    partial: bool,
+    words: ListenWords,
     listener: &L,
     report: &mut R,
 ) -> Status
-    ensures ends { EndsHeard partial L.strict (L.stands listener.now) heard
+    ensures ends { EndsHeard (options_said words) L.strict (L.stands listener.now) heard
         (told R.written R.faults report.old report.new) result }
     ensures later { R.faults report.old ≤ R.faults report.new }
 {
     match heard {
-        Ok(()) => report_guide(alloc, partial, listener, report),
+        Ok(()) => report_guide(alloc, words, listener, report),
         Err(ListenStop::Read(stop)) => report_fault(alloc, status_of(stop), report),
         Err(ListenStop::TooMany(number)) => report_fault(alloc, Status::TooMany(number), report),
         Err(ListenStop::Report) => Status::WriteFault(Outlet::Report),

@@ -10,10 +10,12 @@ ghost use Rattle.strict_receiver.proofs.Apart.{sections_taken_after};
 ghost use Rattle.guide_receiver.specs.Heard.{ReceiverStandsFor};
 ghost use Rattle.guide_receiver.specs.declared.receiver.HearStop.{HearStop};
 ghost use Rattle.strict_receiver.specs.Standing.{StrictStandsAfter};
+ghost use Rattle.command_words.specs.Commands.{options_said};
 ghost use Rattle.epg_listen.specs.Lines.{History, after, counted_in, piece_lines, heard_guide};
 
 use crate::guide::guide_lines;
 use crate::lines::{lines_of, lost_and_lines_of};
+use command_words::ListenWords;
 use guide_receiver::{HearStop, Receiver};
 use std::alloc::{AllocError, Global};
 use strict_receiver::Strict;
@@ -47,9 +49,9 @@ pub(crate) trait Listener {
 
     /// The text of the guide of what was heard: with `partial` what is wanting and all that is held, or
     /// else what is wanting or the whole screen.
-    fn guide_text(&self, alloc: Global, partial: bool) -> Result<Vec<u8>, AllocError>
+    fn guide_text(&self, alloc: Global, words: ListenWords) -> Result<Vec<u8>, AllocError>
         ensures { (h : History) → stands self.now h
-            → IfOk result (λ text. text.items ≡ heard_guide partial strict h) };
+            → IfOk result (λ text. text.items ≡ heard_guide (options_said words) strict h) };
 
     /// What it stands for has at most 65,536 keys.
     ghost few: { (listener : Self) (h : History) → stands listener h → HaveFewKeys (counted_in h) };
@@ -78,8 +80,8 @@ impl Listener for Receiver {
 
     fn pass_over(&mut self) {}
 
-    fn guide_text(&self, alloc: Global, partial: bool) -> Result<Vec<u8>, AllocError> {
-        guide_lines(alloc, self, partial)
+    fn guide_text(&self, alloc: Global, words: ListenWords) -> Result<Vec<u8>, AllocError> {
+        guide_lines(alloc, self, words)
     }
 
     ghost few = { λ receiver h stands. subst (λ (e : List (List (List ℕ))). HaveFewKeys (counted_after e h.past)) (sym stands.0)
@@ -111,8 +113,8 @@ impl Listener for Strict {
         self.restart();
     }
 
-    fn guide_text(&self, alloc: Global, partial: bool) -> Result<Vec<u8>, AllocError> {
-        guide_lines(alloc, self.receiver(), partial)
+    fn guide_text(&self, alloc: Global, words: ListenWords) -> Result<Vec<u8>, AllocError> {
+        guide_lines(alloc, self.receiver(), words)
     }
 
     ghost few = { λ receiver h stands. subst HaveFewKeys (sections_taken_after h.earlier h.past) stands.heard.completions.few };

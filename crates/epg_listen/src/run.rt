@@ -26,6 +26,7 @@ pub fn run_listen<S: Source, R: Sink>(alloc: Global, input: &mut S, report: &mut
         R.written R.faults report.old report.new result }
 {
     let words = ListenWords {
+        details: false,
         partial: false,
         resync: false,
         strict: false,
@@ -41,6 +42,8 @@ pub fn run_listen<S: Source, R: Sink>(alloc: Global, input: &mut S, report: &mut
 /// With `resync` the recording may be damaged, and its packets may be 188, 192 or 204 bytes apart. Where sync is lost, it passes over the
 /// bytes up to the next row of packets, and reports a line `junk`, the number of the next packet, and how many bytes; with `strict` it
 /// starts afresh there. It then answers `BadStream(0)` exactly where the recording has a byte and no packet is found.
+///
+/// With `details` the guide has also the descriptors that no other line shows whole, as `guide_text::print_heard_with` says.
 ///
 /// With `partial` the guide has a line `wanting` for each need that is not met, and then what is held of each table: the content that was
 /// completed last, or else the sections of one version that came last, with `strict` those since the last loss on its PID.
@@ -76,7 +79,7 @@ fn run_with<L: Listener, S: Source, R: Sink>(
         R.written R.faults report.old report.new result }
 {
     let heard = hear_input(alloc, words.resync, listener, input, report);
-    end_report(alloc, heard, words.partial, listener, report)
+    end_report(alloc, heard, words, listener, report)
 }
 
 // Hears all pieces of the input: with `resync` those that are found in it, and else its packets.

@@ -20,6 +20,7 @@
 mod coding;
 mod cutting;
 mod decoding;
+mod descriptor;
 mod event;
 mod genres;
 mod guide;
@@ -33,13 +34,14 @@ mod txt;
 pub use coding::{append_text, coded_len, encode_text, is_all_plain, is_plain_byte};
 pub use cutting::{cut_len, pieces_join, plain_cut_len};
 pub use decoding::{coded_texts_decode, decode_text};
+pub use descriptor::{RawDesc, RawDescs};
 pub use event::{Event, Events, Genre, Genres, Rating};
 pub use genres::put_genres;
 pub use guide::{Guide, ServiceGuide, ServiceGuides};
 pub use offset::{Offset, Offsets};
 pub use screen::{
-    Screen, ScreenEvent, ScreenEvents, ScreenOther, ScreenOthers, ScreenRemote, ScreenRemotes,
-    ScreenService, ScreenServices,
+    Screen, ScreenComponent, ScreenComponents, ScreenEvent, ScreenEvents, ScreenOther,
+    ScreenOthers, ScreenRemote, ScreenRemotes, ScreenService, ScreenServices,
 };
 pub use shown::Shown;
 pub use stream::{Cable, Component, Components};

@@ -20,7 +20,7 @@ use Rattle.guide_parts.specs.Parts.{parts_over}
 use Rattle.guide_parts.specs.PartScreen.{part_screen, part_guide}
 use Rattle.guide_parts.specs.Laws.{screen_as_part, NamesCompleted, IsWholeBeside}
 use Rattle.guide_parts.proofs.WholeScreen.{partial_is_listen}
-use Rattle.guide_parts.specs.PartTexts.{part_text}
+use Rattle.guide_parts.specs.PartTexts.{part_text_with}
 use Rattle.guide_parts.proofs.WholeText.{whole_text}
 use Rattle.guide_parts.specs.HeardLaws.{HoldsWholeBeside, ShowsWhole, GuideIsSame, StrictGuideIsSame, NothingIsBeside}
 use Rattle.guide_parts.proofs.Names.{named_completed}
@@ -31,7 +31,7 @@ shows_whole V taken contents names beside shown heard =
     let same : part_screen (parts_over V taken) ≡ screen_as_part shown = partial_is_listen V taken contents names beside shown heard in
     let none : needs V ≡ [] = (whole_needs_nothing V).0 (shown, heard) in
     let guide : part_guide (parts_over V taken) ≡ record { wanting = []; shown = screen_as_part shown } = λ i. record { wanting = none i; shown = same i } in
-    record { guide = guide; text = ap part_text guide ∙ whole_text shown }
+    record { guide = guide; text = λ details. ap (part_text_with details) guide ∙ whole_text details shown }
 
 pub guide_same : GuideIsSame
 guide_same packets beside shown heard =

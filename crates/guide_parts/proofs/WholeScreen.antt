@@ -13,11 +13,11 @@ use Rattle.guide_screen.specs.Reading.{programs_in, streams_in, services_in}
 use Rattle.guide_screen.specs.declared.need.Need.{Need}
 use Rattle.guide_screen.specs.declared.need.Heard.TheVariants.{Whole}
 use Rattle.guide_screen.specs.Needs.{unless, unmet_of, want_pmt, want_service, want_services, wants, needs, by_service, programs_of, services_of}
-use Rattle.guide_screen.specs.Screen.{pmt_pid, event_at, screen_service, cable_in, other_stream, is_other, network_name, screen, heard_by}
+use Rattle.guide_screen.specs.Screen.{pmt_pid, event_at, screen_service, cable_in, descriptors_in, other_stream, is_other, network_name, network_descriptors, screen, heard_by}
 use Rattle.guide_parts.specs.declared.part_screen.PartNetwork.{PartNetwork}
 use Rattle.guide_parts.specs.declared.part_screen.PartService.{PartService}
 use Rattle.guide_parts.specs.Parts.{Parts, parts_over, heard_key, pat_heard, nit_heard, sdt_heard, home_by, home_of, stream_by}
-use Rattle.guide_parts.specs.PartScreen.{part_at, programs_heard, program_ids, event_ids, described, bare, in_order, services_heard, part_service, network_with, cable_of, is_foreign, moment_at, part_screen}
+use Rattle.guide_parts.specs.PartScreen.{part_at, programs_heard, program_ids, event_ids, described, bare, in_order, services_heard, part_service, network_with, cable_of, stream_descriptors, is_foreign, moment_at, part_screen}
 use Rattle.guide_parts.specs.Laws.{service_as_part, screen_as_part, NamesCompleted, IsWholeBeside, PartialIsListen}
 use Rattle.guide_parts.proofs.Whole.{ArePartsOver, both_none, two_met, each_met, described_in_order, whole_same, present_same, schedule_same, pmt_same}
 
@@ -65,8 +65,10 @@ module _ (past : List Taken) (P : Parts) (are : ArePartsOver past P) (sdt : Key)
         kind = Some s.kind;
         provider = s.provider;
         name = s.name;
+        descriptors = s.descriptors;
         pmt_pid = pmt_pid es s.service;
         pcr_pid = option_map (λ p. p.pcr_pid) (pmt i);
+        program_descriptors = unwrap_or (option_map (λ p. p.descriptors) (pmt i)) [];
         components = unwrap_or (option_map (λ p. p.components) (pmt i)) [];
         now = event_at 0 (present i);
         next = event_at 1 (present i);
@@ -80,7 +82,7 @@ module _ (past : List Taken) (P : Parts) (are : ArePartsOver past P) (sdt : Key)
   services_are (s ∷ ss) beside met = ap₂ (λ (x : PartService) (xs : List PartService). x ∷ xs) (service_is s beside.0 met.0) (services_are ss beside.1 met.1)
 
 abbrev named : ℕ → Content → Option PartNetwork
-named id c = Some (record { id = id; name = network_name c })
+named id c = Some (record { id = id; name = network_name c; descriptors = network_descriptors c })
 
 -- the needs of the tables that follow from the others
 further_met : (V : View) (a b c d : List Need) → a ++ b ++ c ++ d ++ unmet_of V.content (wants V) ≡ [] → unmet_of V.content (wants V) ≡ []
@@ -146,13 +148,16 @@ module _ (past : List Taken) (P : Parts) (are : ArePartsOver past P) (names : Na
   cable_same : cable_of (home_of P) (streams_in (part_at P.part (nit_heard P))) ≡ cable_in of.p.ext of.s.network (streams_in (sections (P.view.content of.n)))
   cable_same = (λ i. cable_of (home_is i) (streams_are i)) ∙ ap (λ (ext : ℕ). cable_in ext of.s.network (streams_in (sections (P.view.content of.n)))) stream_is
 
+  descriptors_same : stream_descriptors (home_of P) (streams_in (part_at P.part (nit_heard P))) ≡ descriptors_in of.p.ext of.s.network (streams_in (sections (P.view.content of.n)))
+  descriptors_same = (λ i. stream_descriptors (home_is i) (streams_are i)) ∙ ap (λ (ext : ℕ). descriptors_in ext of.s.network (streams_in (sections (P.view.content of.n)))) stream_is
+
   others_same : map (other_stream P.view.content (streams_in (part_at P.part (nit_heard P)))) (filter (is_foreign (home_of P)) P.view.others)
       ≡ map (other_stream P.view.content (streams_in (sections (P.view.content of.n)))) (filter (is_other of.p.ext of.s.network) P.view.others)
   others_same =
       (λ i. map (other_stream P.view.content (streams_are i)) (filter (is_foreign (home_is i)) P.view.others))
       ∙ ap (λ (ext : ℕ). map (other_stream P.view.content (streams_in (sections (P.view.content of.n)))) (filter (is_other ext of.s.network) P.view.others)) stream_is
 
-  network_same : option_map (network_with P.part) (nit_heard P) ≡ Some (record { id = of.n.ext; name = network_name (sections (P.view.content of.n)) })
+  network_same : option_map (network_with P.part) (nit_heard P) ≡ named of.n.ext (sections (P.view.content of.n))
   network_same =
       ap (option_map (network_with P.part)) nit_is
       ∙ ap (named of.n.ext) nit_same
@@ -172,6 +177,7 @@ module _ (past : List Taken) (P : Parts) (are : ArePartsOver past P) (names : Na
         stream = stream_same i;
         original = original_same i;
         cable = cable_same i;
+        stream_descriptors = descriptors_same i;
         services = services_same i;
         others = others_same i;
       })

@@ -1,5 +1,5 @@
 -- Where a receiver has a whole guide, the guide of parts is the same.
-use Rattle.std.specs.Prelude.{◌≡◌, ℕ, List, [], true, Some}
+use Rattle.std.specs.Prelude.{◌≡◌, ℕ, Bool, List, [], true, Some}
 use Rattle.std.specs.List.{AllByRecursion}
 use Rattle.guide_model.specs.declared.screen.Screen.{Screen}
 use Rattle.section_codec.specs.declared.table.Key.{Key}
@@ -14,8 +14,8 @@ use Rattle.strict_receiver.specs.Earlier.{strict_guide_after}
 use Rattle.guide_parts.specs.Parts.{Parts, parts_over}
 use Rattle.guide_parts.specs.PartScreen.{part_guide}
 use Rattle.guide_parts.specs.Laws.{screen_as_part, NamesCompleted, IsWholeBeside}
-use Rattle.guide_text.specs.Guides.{guide_text}
-use Rattle.guide_parts.specs.PartTexts.{part_text}
+use Rattle.guide_text.specs.Guides.{guide_text_with}
+use Rattle.guide_parts.specs.PartTexts.{part_text_with}
 use Rattle.guide_parts.specs.Heard.{parts_of, strict_parts_after}
 
 -- Whatever sections a receiver heard before a fresh start, whatever packets since, and whatever counts of them, with the marks between:
@@ -29,10 +29,10 @@ NamedAreCompleted = (earlier : List RawSection) (packets : List (List ℕ)) (tak
 abbrev pub HoldsWholeBeside : Parts → Type 0
 HoldsWholeBeside P = (sdt : Key) → sdt_of P.view ≡ Some sdt → AllByRecursion (IsWholeBeside P sdt) (services_of P.view)
 
--- The guide of parts has nothing wanting and shows this screen, and its text is that of the whole guide.
+-- The guide of parts has nothing wanting and shows this screen, and it has the text of the whole guide, with details and without.
 pub record ShowsWhole (P : Parts) (shown : Screen) : Type 0 where
   pub guide : part_guide P ≡ record { wanting = []; shown = screen_as_part shown }
-  pub text : part_text (part_guide P) ≡ guide_text (Whole shown)
+  pub text : (details : Bool) → part_text_with details (part_guide P) ≡ guide_text_with details (Whole shown)
 
 -- Where any receiver has a whole guide of packets, it shows the same of parts,
 abbrev pub GuideIsSame : Type 0

@@ -22,8 +22,10 @@ service_as_part s = record {
   kind = Some s.kind;
   provider = s.provider;
   name = s.name;
+  descriptors = s.descriptors;
   pmt_pid = s.pmt_pid;
   pcr_pid = s.pcr_pid;
+  program_descriptors = s.program_descriptors;
   components = s.components;
   now = s.now;
   next = s.next;
@@ -34,10 +36,11 @@ abbrev pub screen_as_part : Screen → PartScreen
 screen_as_part s = record {
   clock = Some s.clock;
   offsets = s.offsets;
-  network = Some (record { id = s.network; name = s.network_name });
+  network = Some (record { id = s.network; name = s.network_name; descriptors = s.network_descriptors });
   stream = Some s.stream;
   original = Some s.original;
   cable = s.cable;
+  stream_descriptors = s.stream_descriptors;
   services = map service_as_part s.services;
   others = s.others;
 }

@@ -7,18 +7,19 @@ use Rattle.guide_model.specs.declared.shown.Shown.{Shown}
 use Rattle.guide_model.specs.declared.shown.Shown.TheVariants.{Text}
 use Rattle.si_time.specs.declared.moment.Moment.{Moment}
 use Rattle.guide_model.specs.declared.stream.Cable.{Cable}
+use Rattle.guide_model.specs.declared.descriptor.RawDesc.{RawDesc}
 use Rattle.guide_model.specs.declared.screen.ScreenEvent.{ScreenEvent}
 use Rattle.section_codec.specs.declared.table.Key.{Key}
 use Rattle.section_codec.specs.Contents.{Content}
 use Rattle.section_codec.specs.Keys.{eit_numbers_in}
 use Rattle.table_bodies.specs.declared.pat.PatEntry.{PatEntry}
-use Rattle.table_bodies.specs.declared.pmt.Pmt.{Pmt}
+use Rattle.table_bodies.specs.declared.pmt.HeardPmt.{HeardPmt}
 use Rattle.table_bodies.specs.declared.nit.NitStream.{NitStream}
 use Rattle.table_bodies.specs.declared.sdt.SdtService.{SdtService}
 use Rattle.guide_screen.specs.View.{sdt_of, eit_key}
 use Rattle.guide_screen.specs.Reading.{programs_in, streams_in, services_in, events_in}
 use Rattle.guide_screen.specs.Needs.{last_beside, tables_to, needs}
-use Rattle.guide_screen.specs.Screen.{pmt_pid, pmt_of, event_at, cable_in, other_stream, is_other, network_name}
+use Rattle.guide_screen.specs.Screen.{pmt_pid, pmt_of, event_at, cable_in, descriptors_in, other_stream, is_other, network_name, network_descriptors}
 use Rattle.guide_parts.specs.declared.part_screen.Listed.{Listed}
 use Rattle.guide_parts.specs.declared.part_screen.PartNetwork.{PartNetwork}
 use Rattle.guide_parts.specs.declared.part_screen.PartService.{PartService}
@@ -95,7 +96,7 @@ schedule_held part home service =
     flat_map (events_held part home service) (tables_to 0x50 (last_told (table_held part home 0x50 service)))
 
 -- what the PMT of a service on this PID says
-abbrev pub pmt_held : (Key → Content) → ℕ → Option ℕ → Option Pmt
+abbrev pub pmt_held : (Key → Content) → ℕ → Option ℕ → Option HeardPmt
 pmt_held part service pid = pmt_of (λ k. Some (part k)) service pid
 
 -- the name and the provider of a service; empty without an entry of the SDT
@@ -105,14 +106,20 @@ name_by entry = unwrap_or (option_map (λ (s : SdtService). s.name) entry) (Text
 abbrev pub provider_by : Option SdtService → Shown
 provider_by entry = unwrap_or (option_map (λ (s : SdtService). s.provider) entry) (Text [])
 
-abbrev pub service_with : (Key → Content) → Option Key → Listed → Option ℕ → Option Pmt → PartService
+-- and its further descriptors
+abbrev pub descriptors_by : Option SdtService → List RawDesc
+descriptors_by entry = unwrap_or (option_map (λ (s : SdtService). s.descriptors) entry) []
+
+abbrev pub service_with : (Key → Content) → Option Key → Listed → Option ℕ → Option HeardPmt → PartService
 service_with part home l pid pmt = record {
   service = l.service;
   kind = option_map (λ (s : SdtService). s.kind) l.entry;
   provider = provider_by l.entry;
   name = name_by l.entry;
+  descriptors = descriptors_by l.entry;
   pmt_pid = pid;
   pcr_pid = option_map (λ p. p.pcr_pid) pmt;
+  program_descriptors = unwrap_or (option_map (λ p. p.descriptors) pmt) [];
   components = unwrap_or (option_map (λ p. p.components) pmt) [];
   now = event_at 0 (table_held part home 0x4E l.service);
   next = event_at 1 (table_held part home 0x4E l.service);
@@ -128,12 +135,17 @@ part_service part es home l = service_on part home l (pmt_pid es l.service)
 -- ---- the screen
 
 abbrev pub network_with : (Key → Content) → Key → PartNetwork
-network_with part nit = record { id = nit.ext; name = network_name (part nit) }
+network_with part nit = record { id = nit.ext; name = network_name (part nit); descriptors = network_descriptors (part nit) }
 
 -- the cable of the own stream
 abbrev pub cable_of : Option Key → List NitStream → Option Cable
 cable_of None streams = None
 cable_of (Some home) streams = cable_in home.ext home.network streams
+
+-- and its further descriptors
+abbrev pub stream_descriptors : Option Key → List NitStream → List RawDesc
+stream_descriptors None streams = []
+stream_descriptors (Some home) streams = descriptors_in home.ext home.network streams
 
 -- an SDT of another stream than the own one
 abbrev pub is_foreign : Option Key → Key → Bool
@@ -152,6 +164,7 @@ part_screen P = record {
   stream = stream_by (home_of P) (pat_heard P);
   original = option_map (λ (k : Key). k.network) (home_of P);
   cable = cable_of (home_of P) (streams_in (part_at P.part (nit_heard P)));
+  stream_descriptors = stream_descriptors (home_of P) (streams_in (part_at P.part (nit_heard P)));
   services = map (part_service P.part (programs_heard P) (home_of P)) (services_heard P);
   others =
       map (other_stream P.view.content (streams_in (part_at P.part (nit_heard P))))

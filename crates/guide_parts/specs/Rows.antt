@@ -75,8 +75,10 @@ service kind provider name pid next events = record {
   kind = kind;
   provider = provider;
   name = name;
+  descriptors = [];
   pmt_pid = pid;
   pcr_pid = None;
+  program_descriptors = [];
   components = [];
   now = None;
   next = next;
@@ -91,6 +93,7 @@ shown stream original services = record {
   stream = stream;
   original = original;
   cable = None;
+  stream_descriptors = [];
   services = services;
   others = [];
 }
@@ -106,6 +109,7 @@ event = record {
   extended = Text [];
   rating = None;
   genres = [];
+  descriptors = [];
 }
 
 nothing : part_guide (having None [] []) ≡ record { wanting = Pat ∷ Nit ∷ Sdt ∷ Clock ∷ []; shown = shown None None [] }

@@ -14,6 +14,7 @@ nothing_heard = record {
   stream = None;
   original = None;
   cable = None;
+  stream_descriptors = [];
   services = [];
   others = [];
 }
@@ -33,13 +34,16 @@ row_pat : part_text (record {
     stream = Some 1;
     original = None;
     cable = None;
+    stream_descriptors = [];
     services = record {
       service = 101;
       kind = None;
       provider = Text [];
       name = Text [];
+      descriptors = [];
       pmt_pid = Some 256;
       pcr_pid = None;
+      program_descriptors = [];
       components = [];
       now = None;
       next = None;

@@ -1,6 +1,6 @@
 // The text of a guide of parts.
 ghost use Rattle.std.specs.Prelude.{◌≡◌, ◌++◌, IfOk, OnOk, OnErr};
-ghost use Rattle.guide_parts.specs.PartTexts.{part_text};
+ghost use Rattle.guide_parts.specs.PartTexts.{part_text, part_text_with};
 
 use crate::PartGuide;
 use crate::screen::put_part_screen;
@@ -8,12 +8,12 @@ use guide_text::put_needs;
 use std::alloc::{AllocError, Global};
 
 // The text of a guide of parts in a list of its own.
-fn text_of(alloc: Global, guide: &PartGuide) -> Result<Vec<u8>, AllocError>
-    ensures { IfOk result (λ text. text.items ≡ part_text guide.now) }
+fn text_of(alloc: Global, details: bool, guide: &PartGuide) -> Result<Vec<u8>, AllocError>
+    ensures { IfOk result (λ text. text.items ≡ part_text_with details guide.now) }
 {
     let mut text = Vec::new(alloc);
     put_needs(alloc, &mut text, guide.wanting.as_slice())?;
-    put_part_screen(alloc, &mut text, &guide.shown)?;
+    put_part_screen(alloc, &mut text, details, &guide.shown)?;
     text.extend_from_slice(b"end\n")?;
     Ok(text)
 }
@@ -31,6 +31,21 @@ pub fn print_parts(alloc: Global, guide: &PartGuide, out: &mut Vec<u8>) -> Resul
     ensures text { OnOk result (out.new.items ≡ out.old.items ++ part_text guide.now) }
     ensures kept { OnErr result (out.new.items ≡ out.old.items) }
 {
-    let text = text_of(alloc, guide)?;
+    print_parts_with(alloc, false, guide, out)
+}
+
+/// Appends the text of a guide of parts, with details or without: as `print_parts`, and with details
+/// also the lines that `guide_text::print_heard_with` says. Want of memory leaves `out` with what it
+/// had.
+pub fn print_parts_with(
+    alloc: Global,
+    details: bool,
+    guide: &PartGuide,
+    out: &mut Vec<u8>,
+) -> Result<(), AllocError>
+    ensures text { OnOk result (out.new.items ≡ out.old.items ++ part_text_with details guide.now) }
+    ensures kept { OnErr result (out.new.items ≡ out.old.items) }
+{
+    let text = text_of(alloc, details, guide)?;
     out.extend_from_slice(&text)
 }

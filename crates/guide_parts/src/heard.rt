@@ -12,17 +12,17 @@ ghost use Rattle.guide_screen.specs.Screen.{other_stream};
 ghost use Rattle.guide_parts.specs.Parts.{Parts, parts_over, heard_key, home_by, home_of};
 ghost use Rattle.guide_parts.specs.Holding.{KeepsParts};
 ghost use Rattle.guide_parts.specs.Heads.{AreHeads};
-ghost use Rattle.guide_parts.specs.PartScreen.{part_at, part_service, programs_heard, services_heard, network_with, cable_of, is_foreign, part_screen, part_guide};
+ghost use Rattle.guide_parts.specs.PartScreen.{part_at, part_service, programs_heard, services_heard, network_with, cable_of, stream_descriptors, is_foreign, part_screen, part_guide};
 
 use crate::keys::{heard_key, home_by, stream_by};
 use crate::listed::{ids_beside, services_heard};
 use crate::part_screen::{PartGuide, PartNetwork, PartScreen, PartServices};
 use crate::services::part_services;
 use crate::tables::part_at;
-use guide_model::{Cable, Offset, ScreenOthers};
+use guide_model::{Cable, Offset, RawDescs, ScreenOthers};
 use guide_screen::{
-    Latest, Needs, cable_in, copied, is_other, needs_of, network_name, other_stream, programs_in,
-    programs_of, services_of, streams_in,
+    Latest, Needs, cable_in, copied, descriptors_in, is_other, needs_of, network_descriptors,
+    network_name, other_stream, programs_in, programs_of, services_of, streams_in,
 };
 use section_codec::Key;
 use si_base::Items;
@@ -118,6 +118,7 @@ fn part_screen(
         stream: stream_by(heads.home, heads.pat),
         original: network_of(heads.home),
         cable: cable_of(heads.home, &streams),
+        stream_descriptors: stream_descriptors(alloc, heads.home, &streams)?,
         services,
         others,
     })
@@ -140,6 +141,20 @@ fn cable_of(home: Option<Key>, streams: &[NitStream]) -> Option<Cable>
     match home {
         Some(home) => cable_in(streams, home.ext, home.network),
         None => None,
+    }
+}
+
+// The further descriptors of the own stream.
+fn stream_descriptors(
+    alloc: Global,
+    home: Option<Key>,
+    streams: &[NitStream],
+) -> Result<RawDescs, AllocError>
+    ensures { IfOk result (λ descs. descs ≡ stream_descriptors home streams.now) }
+{
+    match home {
+        Some(home) => descriptors_in(alloc, streams, home.ext, home.network),
+        None => Ok(RawDescs::new(alloc)),
     }
 }
 
@@ -170,7 +185,12 @@ fn network_heard(
     };
     let held = contents.part(alloc, nit)?;
     let name = network_name(alloc, held.sections())?;
-    Ok(Some(PartNetwork { id: nit.ext, name }))
+    let descriptors = network_descriptors(alloc, held.sections())?;
+    Ok(Some(PartNetwork {
+        id: nit.ext,
+        name,
+        descriptors,
+    }))
 }
 
 // The programs of this PAT.

@@ -7,7 +7,7 @@
 //! `specs/PartScreen.antt` what is shown of it; worked screens stand in `specs/Rows.antt`.
 //!
 //! [`print_parts`] appends exactly the text that the definitions say (`part_text`), or nothing
-//! where memory runs out: a line `wanting` for each need, then the lines of what was heard, in the
+//! where memory runs out, and [`print_parts_with`] also with details: a line `wanting` for each need, then the lines of what was heard, in the
 //! order of a whole guide, then `end`. `specs/PartTexts.antt` has the table of the lines. With
 //! nothing wanting a whole screen has the text of a guide (`whole_text_is_listen`).
 //!
@@ -33,7 +33,7 @@ mod services;
 mod tables;
 mod text_laws;
 
-pub use guide::print_parts;
+pub use guide::{print_parts, print_parts_with};
 pub use heard::parts_heard;
 pub use heard_laws::{named_tables_are_whole, whole_guides_are_the_same};
 pub use laws::partial_is_listen;

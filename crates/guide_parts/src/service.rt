@@ -5,7 +5,8 @@ ghost use Rattle.guide_parts.specs.PartTexts.{part_service_line, part_service_te
 
 use crate::PartService;
 use guide_text::{
-    put_components, put_decimal, put_events, put_field, put_optional, put_shown, put_some_event,
+    put_components, put_decimal, put_events, put_field, put_optional, put_service_details,
+    put_shown, put_some_event,
 };
 use std::alloc::{AllocError, Global};
 
@@ -53,31 +54,41 @@ fn put_service_line(
     out.extend_from_slice(b"\n")
 }
 
-// Appends the lines of a service: its own, and those of its components and of its events.
+// Appends the lines of a service: its own, and those of its further descriptors, of its components and of its events.
 fn put_part_service(
     alloc: Global,
     out: &mut Vec<u8>,
+    details: bool,
     service: &PartService,
 ) -> Result<(), AllocError>
-    ensures { OnOk result (out.new.items ≡ out.old.items ++ part_service_text service.entry.now) }
+    ensures { OnOk result (out.new.items ≡ out.old.items ++ part_service_text details service.entry.now) }
 {
+    let further = service.descriptors.as_slice();
     put_service_line(alloc, out, service)?;
-    put_components(alloc, out, service.components.as_slice())?;
-    put_some_event(alloc, out, b"now", &service.now)?;
-    put_some_event(alloc, out, b"next", &service.next)?;
-    put_events(alloc, out, b"event", service.events.as_slice())
+    put_service_details(
+        alloc,
+        out,
+        details,
+        further,
+        service.program_descriptors.as_slice(),
+    )?;
+    put_components(alloc, out, details, service.components.as_slice())?;
+    put_some_event(alloc, out, details, b"now", &service.now)?;
+    put_some_event(alloc, out, details, b"next", &service.next)?;
+    put_events(alloc, out, details, b"event", service.events.as_slice())
 }
 
 // Appends the lines of services.
 pub(crate) fn put_part_services(
     alloc: Global,
     out: &mut Vec<u8>,
+    details: bool,
     services: &[PartService],
 ) -> Result<(), AllocError>
-    ensures { OnOk result (out.new.items ≡ out.old.items ++ flat_map part_service_text services.now) }
+    ensures { OnOk result (out.new.items ≡ out.old.items ++ flat_map (part_service_text details) services.now) }
 {
     for service in services {
-        put_part_service(alloc, out, service)?;
+        put_part_service(alloc, out, details, service)?;
     }
     Ok(())
 }

@@ -4,29 +4,49 @@ ghost use Rattle.guide_model.specs.declared.shown.Shown.TheVariants.{Text};
 ghost use Rattle.section_codec.specs.declared.table.Key.{Key};
 ghost use Rattle.section_codec.specs.Contents.{Content};
 ghost use Rattle.guide_parts.specs.Holding.{KeepsParts};
-ghost use Rattle.guide_parts.specs.PartScreen.{name_by, provider_by, service_on, part_service};
+ghost use Rattle.guide_parts.specs.PartScreen.{descriptors_by, name_by, provider_by, service_on, part_service};
 
 use crate::part_screen::{Listed, PartService, PartServices};
 use crate::tables::{pmt_held, schedule_held, table_held};
-use guide_model::{Shown, Txt};
-use guide_screen::{clock_and_components, event_at, pids_of, pmt_pid};
+use guide_model::{RawDescs, Shown, Txt};
+use guide_screen::{event_at, pids_of, pmt_pid, program_of};
 use section_codec::Key;
 use si_base::Items;
 use std::alloc::{AllocError, Global};
 use sub_collect::Collector;
 use table_bodies::{PatEntry, SdtService};
 
-// The service_type, and the names of the provider and of the service; empty ones without an entry.
-fn names_by(
-    alloc: Global,
-    entry: Option<SdtService>,
-) -> Result<(Option<u8>, Shown, Shown), AllocError>
-    ensures { IfOk result (λ told. (told.0 ≡ option_map (λ s. s.kind) entry)
-        × (told.1 ≡ provider_by entry) × (told.2 ≡ name_by entry)) }
+// What the SDT says of a service beside its id.
+#[derive(Drop)]
+struct Described {
+    kind: Option<u8>,
+    provider: Shown,
+    name: Shown,
+    descriptors: RawDescs,
+}
+
+// What an entry of the SDT says; without an entry there are empty names.
+fn described_by(alloc: Global, entry: Option<SdtService>) -> Result<Described, AllocError>
+    ensures { IfOk result (λ said. said ≡ record {
+      kind = option_map (λ s. s.kind) entry;
+      provider = provider_by entry;
+      name = name_by entry;
+      descriptors = descriptors_by entry;
+    }) }
 {
     match entry {
-        Some(entry) => Ok((Some(entry.kind), entry.provider, entry.name)),
-        None => Ok((None, empty_name(alloc)?, empty_name(alloc)?)),
+        Some(entry) => Ok(Described {
+            kind: Some(entry.kind),
+            provider: entry.provider,
+            name: entry.name,
+            descriptors: entry.descriptors,
+        }),
+        None => Ok(Described {
+            kind: None,
+            provider: empty_name(alloc)?,
+            name: empty_name(alloc)?,
+            descriptors: Items::new(alloc),
+        }),
     }
 }
 
@@ -49,20 +69,22 @@ fn service_on(
         → IfOk result (λ shown. shown ≡ service_on part home one pid) }
 {
     let id = one.service;
-    let (pcr_pid, components) = clock_and_components(alloc, pmt_held(alloc, contents, id, pid)?);
+    let program = program_of(alloc, pmt_held(alloc, contents, id, pid)?);
     let present = table_held(alloc, contents, home, 0x4E, id)?;
     let now = event_at(alloc, 0, present.sections())?;
     let next = event_at(alloc, 1, present.sections())?;
     let events = schedule_held(alloc, contents, home, id)?;
-    let (kind, provider, name) = names_by(alloc, one.entry)?;
+    let said = described_by(alloc, one.entry)?;
     Ok(PartService {
         service: id,
-        kind,
-        provider,
-        name,
+        kind: said.kind,
+        provider: said.provider,
+        name: said.name,
+        descriptors: said.descriptors,
         pmt_pid: pid,
-        pcr_pid,
-        components,
+        pcr_pid: program.pcr_pid,
+        program_descriptors: program.descriptors,
+        components: program.components,
         now,
         next,
         events,

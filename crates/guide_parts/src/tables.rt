@@ -12,7 +12,7 @@ use section_codec::{Key, NumberedBody};
 use si_base::Items;
 use std::alloc::{AllocError, Global};
 use sub_collect::{Collector, Part};
-use table_bodies::Pmt;
+use table_bodies::HeardPmt;
 
 // What is held of a key, where there is one.
 pub(crate) fn part_at(
@@ -117,7 +117,7 @@ pub(crate) fn pmt_held(
     contents: &Collector,
     service: u16,
     pid: Option<u16>,
-) -> Result<Option<Pmt>, AllocError>
+) -> Result<Option<HeardPmt>, AllocError>
     ensures { (part : Key → Content) → KeepsParts contents.now part
         → IfOk result (λ pmt. pmt ≡ pmt_held part service pid) }
 {

@@ -26,7 +26,7 @@ use Rattle.guide_screen.specs.Screen.{heard_of}
 read_pmt : pmt_in
     (0xE1 ∷ 0x01 ∷ 0xF0 ∷ 0x02 ∷ 0x7F ∷ 0x00
     ∷ 0x03 ∷ 0xE2 ∷ 0x02 ∷ 0xF0 ∷ 0x06 ∷ 0x0A ∷ 0x04 ∷ 0x65 ∷ 0x6E ∷ 0x67 ∷ 0x00 ∷ [])
-    ≡ Some (record { pcr_pid = 257; components = record { stream_type = 3; pid = 514; language = Some (codes "eng") } ∷ [] })
+    ≡ Some (record { pcr_pid = 257; descriptors = record { tag = 0x7F; body = [] } ∷ []; components = record { stream_type = 3; pid = 514; language = Some (codes "eng"); descriptors = [] } ∷ [] })
 unfolding chars
 read_pmt = refl
 
@@ -53,6 +53,7 @@ bare = record {
   extended = Text [];
   rating = None;
   genres = [];
+  descriptors = [];
 }
 
 abbrev eit : Eit
@@ -145,16 +146,20 @@ shown_beside others events = record {
   offsets = [];
   network = 40;
   network_name = Text (codes "Demo");
+  network_descriptors = [];
   stream = 1;
   original = 1;
   cable = None;
+  stream_descriptors = [];
   services = record {
     service = 101;
     kind = 1;
     provider = Text (codes "Acme");
     name = Text (codes "News");
+    descriptors = [];
     pmt_pid = Some 256;
     pcr_pid = Some 257;
+    program_descriptors = [];
     components = [];
     now = None;
     next = None;
@@ -241,11 +246,13 @@ stream_shown stream network next events = record {
   stream = stream;
   original = network;
   cable = None;
+  descriptors = [];
   services = record {
     service = 201;
     kind = 1;
     provider = Text (codes "Acme");
     name = Text (codes "Two");
+    descriptors = [];
     now = None;
     next = next;
     events = events;
@@ -310,7 +317,7 @@ further = refl
 -- ---- services
 
 abbrev entry : ℕ → ℕ → SdtService
-entry id kind = record { service = id; schedule = true; present = true; kind = kind; provider = Text []; name = Text [] }
+entry id kind = record { service = id; schedule = true; present = true; kind = kind; provider = Text []; name = Text []; descriptors = [] }
 
 ascending : by_service (entry 5 1 ∷ entry 3 2 ∷ entry 5 3 ∷ entry 4 4 ∷ []) ≡ entry 3 2 ∷ entry 4 4 ∷ entry 5 1 ∷ []
 ascending = refl

@@ -5,6 +5,7 @@ use Rattle.std.specs.List.{flat_map}
 use Rattle.guide_model.specs.declared.shown.Shown.{Shown}
 use Rattle.guide_model.specs.declared.shown.Shown.TheVariants.{Text}
 use Rattle.guide_model.specs.declared.stream.Cable.{Cable}
+use Rattle.guide_model.specs.declared.descriptor.RawDesc.{RawDesc}
 use Rattle.guide_model.specs.declared.screen.ScreenEvent.{ScreenEvent}
 use Rattle.guide_model.specs.declared.screen.ScreenService.{ScreenService}
 use Rattle.guide_model.specs.declared.screen.ScreenRemote.{ScreenRemote}
@@ -13,7 +14,7 @@ use Rattle.guide_model.specs.declared.screen.Screen.{Screen}
 use Rattle.section_codec.specs.declared.table.Key.{Key}
 use Rattle.section_codec.specs.Contents.{Content}
 use Rattle.table_bodies.specs.declared.pat.PatEntry.{PatEntry}
-use Rattle.table_bodies.specs.declared.pmt.Pmt.{Pmt}
+use Rattle.table_bodies.specs.declared.pmt.HeardPmt.{HeardPmt}
 use Rattle.table_bodies.specs.declared.nit.NitStream.{NitStream}
 use Rattle.table_bodies.specs.declared.sdt.SdtService.{SdtService}
 use Rattle.table_bodies.specs.declared.eit.Eit.{Eit}
@@ -38,10 +39,10 @@ abbrev pub pmt_pid : List PatEntry → ℕ → Option ℕ
 pmt_pid es service = if service == 0 then None else pid_in service es
 
 -- the PMT of a service on this PID, by its section 0
-abbrev pub pmt_at : (Key → Option Content) → ℕ → ℕ → Option Pmt
+abbrev pub pmt_at : (Key → Option Content) → ℕ → ℕ → Option HeardPmt
 pmt_at content service pid = value_in pmt_in 0 (sections (content (pmt_key pid service)))
 
-abbrev pub pmt_of : (Key → Option Content) → ℕ → Option ℕ → Option Pmt
+abbrev pub pmt_of : (Key → Option Content) → ℕ → Option ℕ → Option HeardPmt
 pmt_of content service pid = option_and_then (pmt_at content service) pid
 
 -- the first event of the section with this number
@@ -62,14 +63,16 @@ abbrev pub schedule_of : (Key → Option Content) → Key → ℕ → ℕ → �
 schedule_of content sdt service first most =
     flat_map (events_at content sdt service) (tables_to first (last_table most (table_at content sdt service first)))
 
-abbrev pub service_with : (Key → Option Content) → Key → SdtService → Option ℕ → Option Pmt → ScreenService
+abbrev pub service_with : (Key → Option Content) → Key → SdtService → Option ℕ → Option HeardPmt → ScreenService
 service_with content sdt s pid pmt = record {
   service = s.service;
   kind = s.kind;
   provider = s.provider;
   name = s.name;
+  descriptors = s.descriptors;
   pmt_pid = pid;
   pcr_pid = option_map (λ p. p.pcr_pid) pmt;
+  program_descriptors = unwrap_or (option_map (λ p. p.descriptors) pmt) [];
   components = unwrap_or (option_map (λ p. p.components) pmt) [];
   now = event_at 0 (table_at content sdt s.service 0x4E);
   next = event_at 1 (table_at content sdt s.service 0x4E);
@@ -91,6 +94,7 @@ remote_service content sdt s = record {
   kind = s.kind;
   provider = s.provider;
   name = s.name;
+  descriptors = s.descriptors;
   now = event_at 0 (table_at content sdt s.service 0x4F);
   next = event_at 1 (table_at content sdt s.service 0x4F);
   events = schedule_of content sdt s.service 0x60 0x6F;
@@ -106,12 +110,19 @@ cable_in stream original [] = None
 cable_in stream original (e ∷ es) =
     if e.stream == stream && e.original == original then e.cable else cable_in stream original es
 
+-- and its further descriptors
+abbrev pub descriptors_in : ℕ → ℕ → List NitStream → List RawDesc
+descriptors_in stream original [] = []
+descriptors_in stream original (e ∷ es) =
+    if e.stream == stream && e.original == original then e.descriptors else descriptors_in stream original es
+
 -- the stream that this SDT describes, by these entries of the NIT
 abbrev pub other_stream : (Key → Option Content) → List NitStream → Key → ScreenOther
 other_stream content streams sdt = record {
   stream = sdt.ext;
   original = sdt.network;
   cable = cable_in sdt.ext sdt.network streams;
+  descriptors = descriptors_in sdt.ext sdt.network streams;
   services = remote_services content sdt;
 }
 
@@ -129,15 +140,21 @@ other_streams content streams stream original sdts = map (other_stream content s
 abbrev pub network_name : Content → Shown
 network_name c = unwrap_or (option_map (λ nit. nit.name) (value_in nit_in 0 c)) (Text [])
 
+-- its further descriptors, by the same
+abbrev pub network_descriptors : Content → List RawDesc
+network_descriptors c = unwrap_or (option_map (λ nit. nit.descriptors) (value_in nit_in 0 c)) []
+
 abbrev pub screen : View → Key → Key → Key → ℕ → Screen
 screen V pat nit sdt clock = record {
   clock = record { 0 = clock };
   offsets = V.offsets;
   network = nit.ext;
   network_name = network_name (sections (V.content nit));
+  network_descriptors = network_descriptors (sections (V.content nit));
   stream = pat.ext;
   original = sdt.network;
   cable = cable_in pat.ext sdt.network (streams_in (sections (V.content nit)));
+  stream_descriptors = descriptors_in pat.ext sdt.network (streams_in (sections (V.content nit)));
   services = map (screen_service V.content (programs_of V) sdt) (services_of V);
   others = other_streams V.content (streams_in (sections (V.content nit))) pat.ext sdt.network V.others;
 }

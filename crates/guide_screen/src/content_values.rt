@@ -7,15 +7,15 @@ ghost use Rattle.table_bodies.specs.Nit.{nit_in};
 ghost use Rattle.table_bodies.specs.Sdt.{sdt_in};
 ghost use Rattle.table_bodies.specs.Eit.{eit_in};
 ghost use Rattle.guide_screen.specs.Needs.{last_table};
-ghost use Rattle.guide_screen.specs.Screen.{first_of, event_at, network_name};
+ghost use Rattle.guide_screen.specs.Screen.{first_of, event_at, network_name, network_descriptors};
 
-use guide_model::{ScreenEvent, ScreenEvents, Shown, Txt};
+use guide_model::{RawDescs, ScreenEvent, ScreenEvents, Shown, Txt};
 use section_codec::NumberedBody;
 use si_base::Items;
 use std::alloc::{AllocError, Global};
 use table_bodies::{
-    NitStream, NitStreams, PatEntry, Pmt, SdtService, SdtServices, read_eit, read_nit, read_pat,
-    read_pmt, read_sdt,
+    HeardPmt, NitStream, NitStreams, PatEntry, SdtService, SdtServices, read_eit, read_nit,
+    read_pat, read_pmt, read_sdt,
 };
 
 // The body of the section with this number.
@@ -31,7 +31,7 @@ fn part_in(content: &[NumberedBody], number: u8) -> Option<&[u8]>
 }
 
 /// What section 0 of a program map table says.
-pub fn pmt_told(alloc: Global, content: &[NumberedBody]) -> Result<Option<Pmt>, AllocError>
+pub fn pmt_told(alloc: Global, content: &[NumberedBody]) -> Result<Option<HeardPmt>, AllocError>
     ensures { IfOk result (λ pmt. pmt ≡ value_in pmt_in 0 content.now) }
 {
     match part_in(content, 0) {
@@ -50,6 +50,18 @@ pub fn network_name(alloc: Global, content: &[NumberedBody]) -> Result<Shown, Al
         return Ok(nit.name);
     }
     Ok(Shown::Text(Txt::of_kept(alloc, "")?))
+}
+
+/// The further descriptors of the network, by section 0 of the network information table; none where it says none.
+pub fn network_descriptors(alloc: Global, content: &[NumberedBody]) -> Result<RawDescs, AllocError>
+    ensures { IfOk result (λ descs. descs ≡ network_descriptors content.now) }
+{
+    if let Some(body) = part_in(content, 0)
+        && let Some(nit) = read_nit(alloc, body)?
+    {
+        return Ok(nit.descriptors);
+    }
+    Ok(RawDescs::new(alloc))
 }
 
 /// The first event of the section with this number.

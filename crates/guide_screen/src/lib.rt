@@ -21,13 +21,14 @@ mod screen;
 mod services;
 
 pub use content_values::{
-    event_at, network_name, pmt_told, programs_in, put_events, services_in, streams_in,
+    event_at, network_descriptors, network_name, pmt_told, programs_in, put_events, services_in,
+    streams_in,
 };
 pub use contents::{Latest, eit_key, pmt_key};
 pub use heard::heard_guide;
 pub use laws::screens_need_nothing;
 pub use need::{Heard, Need, Needs};
 pub use needs::{needs_of, tables_to};
-pub use others::{cable_in, is_other, other_stream};
-pub use screen::{clock_and_components, copied, pids_of, pmt_pid};
+pub use others::{cable_in, descriptors_in, is_other, other_stream};
+pub use screen::{Program, copied, pids_of, pmt_pid, program_of};
 pub use services::{programs_of, services_of};

@@ -3,13 +3,13 @@ ghost use Rattle.std.specs.Prelude.{◌≡◌, ◌++◌, ◌∷◌, [], Option, 
 ghost use Rattle.section_codec.specs.declared.table.Key.{Key};
 ghost use Rattle.section_codec.specs.Contents.{Content};
 ghost use Rattle.guide_screen.specs.Holding.{KeepsContents};
-ghost use Rattle.guide_screen.specs.Screen.{remote_service, remote_services, cable_in, other_stream, is_other, other_streams};
+ghost use Rattle.guide_screen.specs.Screen.{remote_service, remote_services, cable_in, descriptors_in, other_stream, is_other, other_streams};
 
 use crate::content_values::event_at;
 use crate::contents::{eit_key, sections_of};
 use crate::schedule::schedule_of;
 use crate::services::services_of;
-use guide_model::{Cable, ScreenOther, ScreenOthers, ScreenRemote, ScreenRemotes};
+use guide_model::{Cable, RawDescs, ScreenOther, ScreenOthers, ScreenRemote, ScreenRemotes};
 use section_codec::Key;
 use si_base::Items;
 use std::alloc::{AllocError, Global};
@@ -26,6 +26,23 @@ pub fn cable_in(streams: &[NitStream], stream: u16, original: u16) -> Option<Cab
         }
     }
     None
+}
+
+/// A copy of the further descriptors of the first of these streams with these ids; none where there is no such stream.
+pub fn descriptors_in(
+    alloc: Global,
+    streams: &[NitStream],
+    stream: u16,
+    original: u16,
+) -> Result<RawDescs, AllocError>
+    ensures { IfOk result (λ copy. copy ≡ descriptors_in stream original streams.now) }
+{
+    for entry in streams {
+        if entry.stream == stream && entry.original == original {
+            return entry.descriptors.copy();
+        }
+    }
+    Ok(RawDescs::new(alloc))
 }
 
 // What is shown of a service of the stream that this SDT describes.
@@ -48,6 +65,7 @@ fn remote_service(
         kind: service.kind,
         provider: service.provider,
         name: service.name,
+        descriptors: service.descriptors,
         now,
         next,
         events,
@@ -85,6 +103,7 @@ pub fn other_stream(
         stream: sdt.ext,
         original: sdt.network,
         cable: cable_in(streams, sdt.ext, sdt.network),
+        descriptors: descriptors_in(alloc, streams, sdt.ext, sdt.network)?,
         services: remote_services(alloc, contents, sdt)?,
     })
 }

@@ -10,18 +10,20 @@ ghost use Rattle.guide_screen.specs.Holding.{KeepsContents};
 ghost use Rattle.guide_screen.specs.Needs.{programs_of, services_of};
 ghost use Rattle.guide_screen.specs.Screen.{pid_in, pmt_pid, pmt_of, service_on, screen_service, screen};
 
-use crate::content_values::{event_at, network_name, pmt_told, streams_in};
+use crate::content_values::{event_at, network_descriptors, network_name, pmt_told, streams_in};
 use crate::contents::{eit_key, pmt_key, sections_of};
-use crate::others::{cable_in, other_streams};
+use crate::others::{cable_in, descriptors_in, other_streams};
 use crate::schedule::schedule_of;
-use guide_model::{Components, Offset, Offsets, Screen, ScreenService, ScreenServices};
+use guide_model::{
+    Offset, Offsets, RawDescs, Screen, ScreenComponents, ScreenService, ScreenServices,
+};
 use section_codec::Key;
 use si_base::Items;
 use si_time::Moment;
 use std::alloc::{AllocError, Global};
 use std::collections::BTreeMap;
 use sub_collect::Collector;
-use table_bodies::{PatEntry, Pmt, SdtService};
+use table_bodies::{HeardPmt, PatEntry, SdtService};
 
 /// Of each program the PID of its first entry.
 pub fn pids_of(alloc: Global, programs: &[PatEntry]) -> Result<BTreeMap<u16, u16>, AllocError>
@@ -54,7 +56,7 @@ fn pmt_of(
     contents: &Collector,
     service: u16,
     pid: Option<u16>,
-) -> Result<Option<Pmt>, AllocError>
+) -> Result<Option<HeardPmt>, AllocError>
     ensures { (content : Key → Option Content) → KeepsContents contents.now content
         → IfOk result (λ pmt. pmt ≡ pmt_of content service pid) }
 {
@@ -76,7 +78,7 @@ fn service_on(
         → IfOk result (λ shown. shown ≡ service_on content sdt service pid) }
 {
     let id = service.service;
-    let (pcr_pid, components) = clock_and_components(alloc, pmt_of(alloc, contents, id, pid)?);
+    let program = program_of(alloc, pmt_of(alloc, contents, id, pid)?);
     let present = sections_of(contents, eit_key(sdt, 0x4E, id));
     let now = event_at(alloc, 0, present)?;
     let next = event_at(alloc, 1, present)?;
@@ -86,23 +88,42 @@ fn service_on(
         kind: service.kind,
         provider: service.provider,
         name: service.name,
+        descriptors: service.descriptors,
         pmt_pid: pid,
-        pcr_pid,
-        components,
+        pcr_pid: program.pcr_pid,
+        program_descriptors: program.descriptors,
+        components: program.components,
         now,
         next,
         events,
     })
 }
 
-/// The PCR PID and the components of a PMT; none of both without it.
-pub fn clock_and_components(alloc: Global, pmt: Option<Pmt>) -> (Option<u16>, Components)
-    ensures pcr_pid { result.0 ≡ option_map (λ p. p.pcr_pid) pmt }
-    ensures components { result.1 ≡ unwrap_or (option_map (λ p. p.components) pmt) [] }
+/// What is shown of a program: the PID of its PCR where there is a PMT, its further descriptors and its components.
+#[derive(Drop)]
+pub struct Program {
+    pub pcr_pid: Option<u16>,
+    pub descriptors: RawDescs,
+    pub components: ScreenComponents,
+}
+
+/// What a PMT says of its program; nothing without it.
+pub fn program_of(alloc: Global, pmt: Option<HeardPmt>) -> Program
+    ensures pcr_pid { result.pcr_pid ≡ option_map (λ p. p.pcr_pid) pmt }
+    ensures descriptors { result.descriptors ≡ unwrap_or (option_map (λ p. p.descriptors) pmt) [] }
+    ensures components { result.components ≡ unwrap_or (option_map (λ p. p.components) pmt) [] }
 {
     match pmt {
-        Some(pmt) => (Some(pmt.pcr_pid), pmt.components),
-        None => (None, Items::new(alloc)),
+        Some(pmt) => Program {
+            pcr_pid: Some(pmt.pcr_pid),
+            descriptors: pmt.descriptors,
+            components: pmt.components,
+        },
+        None => Program {
+            pcr_pid: None,
+            descriptors: Items::new(alloc),
+            components: Items::new(alloc),
+        },
     }
 }
 
@@ -160,6 +181,7 @@ pub(crate) fn screen_of(
     let network = sections_of(contents, of.nit);
     let streams = streams_in(alloc, network)?;
     let network_name = network_name(alloc, network)?;
+    let network_descriptors = network_descriptors(alloc, network)?;
     let services = screen_services(alloc, contents, programs, of.sdt, services)?;
     let others = other_streams(
         alloc,
@@ -174,9 +196,11 @@ pub(crate) fn screen_of(
         offsets: copied(alloc, offsets)?,
         network: of.nit.ext,
         network_name,
+        network_descriptors,
         stream: of.pat.ext,
         original: of.sdt.network,
         cable: cable_in(&streams, of.pat.ext, of.sdt.network),
+        stream_descriptors: descriptors_in(alloc, &streams, of.pat.ext, of.sdt.network)?,
         services,
         others,
     })

@@ -1,2 +1,3 @@
+pub mod DetailsBack
 mod Lines
 pub mod LocalLines

@@ -1,10 +1,11 @@
 -- The text of a guide: the table of its lines.
-use Rattle.std.specs.Prelude.{ℕ, ◌+◌, ◌-◌, ◌*◌, ◌++◌, List, [], ◌∷◌, take, Bool, if◌then◌else◌, nat_le, Option, Some, None, codes, decimal, flat_map}
+use Rattle.std.specs.Prelude.{ℕ, ◌+◌, ◌-◌, ◌*◌, ◌++◌, List, [], ◌∷◌, take, Bool, false, if◌then◌else◌, nat_le, Option, Some, None, codes, decimal, flat_map}
 use Rattle.std.specs.List.{join_with_byte}
 use Rattle.guide_model.specs.declared.event.Rating.{Rating}
 use Rattle.guide_model.specs.declared.offset.Offset.{Offset}
 use Rattle.guide_model.specs.declared.stream.Cable.{Cable}
-use Rattle.guide_model.specs.declared.stream.Component.{Component}
+use Rattle.guide_model.specs.declared.descriptor.RawDesc.{RawDesc}
+use Rattle.guide_model.specs.declared.screen.ScreenComponent.{ScreenComponent}
 use Rattle.guide_model.specs.declared.screen.ScreenEvent.{ScreenEvent}
 use Rattle.guide_model.specs.declared.screen.ScreenService.{ScreenService}
 use Rattle.guide_model.specs.declared.screen.ScreenRemote.{ScreenRemote}
@@ -15,11 +16,20 @@ use Rattle.guide_screen.specs.declared.need.Need.TheVariants.{Pat, Nit, Sdt, Clo
 use Rattle.guide_screen.specs.declared.need.Heard.{Heard}
 use Rattle.guide_screen.specs.declared.need.Heard.TheVariants.{Whole, Wanting}
 use Rattle.guide_model.specs.Genres.{genres_text}
-use Rattle.guide_text.specs.Fields.{shown_text, code_text, moment_field, duration_field, optional}
+use Rattle.guide_text.specs.Fields.{shown_text, code_text, moment_field, duration_field, optional, descriptor_text}
 
 -- a line of fields, the first of which is its word: with tabs (9) between, and LF at its end
 abbrev pub line : List (List ℕ) → List ℕ
 line fields = join_with_byte 9 fields ++ codes "\n"
+
+-- ---- further descriptors
+
+abbrev pub descriptor_line : List ℕ → RawDesc → List ℕ
+descriptor_line word d = line (word ∷ descriptor_text d ∷ [])
+
+-- with details a line for each descriptor that no field shows whole
+abbrev pub details_text : Bool → List ℕ → List RawDesc → List ℕ
+details_text details word ds = if details then flat_map (descriptor_line word) ds else []
 
 -- ---- needs
 
@@ -54,11 +64,17 @@ event_fields e =
 abbrev pub event_line : List ℕ → ScreenEvent → List ℕ
 event_line word e = line (word ∷ event_fields e)
 
+abbrev pub event_text : Bool → List ℕ → ScreenEvent → List ℕ
+event_text details word e = event_line word e ++ details_text details (codes "descriptor") e.descriptors
+
 -- ---- services
 
 -- stream_type, PID and language
-abbrev pub component_line : Component → List ℕ
+abbrev pub component_line : ScreenComponent → List ℕ
 component_line c = line (codes "component" ∷ decimal c.stream_type ∷ decimal c.pid ∷ optional code_text c.language ∷ [])
+
+abbrev pub component_text : Bool → ScreenComponent → List ℕ
+component_text details c = component_line c ++ details_text details (codes "descriptor") c.descriptors
 
 -- service_id, service_type, provider, name, and the PIDs of its PMT and its PCR
 abbrev pub service_line : ScreenService → List ℕ
@@ -66,12 +82,16 @@ service_line s =
     line (codes "service" ∷ decimal s.service ∷ decimal s.kind ∷ shown_text s.provider ∷ shown_text s.name
     ∷ optional decimal s.pmt_pid ∷ optional decimal s.pcr_pid ∷ [])
 
+-- the further descriptors of a service in the SDT, and those of its program in the PMT
+abbrev pub service_details : Bool → List RawDesc → List RawDesc → List ℕ
+service_details details ds program = details_text details (codes "descriptor") ds ++ details_text details (codes "program") program
+
 -- a service, its components, and its events
-abbrev pub service_text : ScreenService → List ℕ
-service_text s =
-    service_line s ++ flat_map component_line s.components
-    ++ optional (event_line (codes "now")) s.now ++ optional (event_line (codes "next")) s.next
-    ++ flat_map (event_line (codes "event")) s.events
+abbrev pub service_text : Bool → ScreenService → List ℕ
+service_text details s =
+    service_line s ++ service_details details s.descriptors s.program_descriptors ++ flat_map (component_text details) s.components
+    ++ optional (event_text details (codes "now")) s.now ++ optional (event_text details (codes "next")) s.next
+    ++ flat_map (event_text details (codes "event")) s.events
 
 -- ---- the screen
 
@@ -131,28 +151,38 @@ abbrev pub remote_line : ScreenRemote → List ℕ
 remote_line s = line (codes "remote" ∷ decimal s.service ∷ decimal s.kind ∷ shown_text s.provider ∷ shown_text s.name ∷ [])
 
 -- a service of another stream, and its events
-abbrev pub remote_text : ScreenRemote → List ℕ
-remote_text s =
-    remote_line s ++ optional (event_line (codes "now")) s.now ++ optional (event_line (codes "next")) s.next
-    ++ flat_map (event_line (codes "event")) s.events
+abbrev pub remote_text : Bool → ScreenRemote → List ℕ
+remote_text details s =
+    remote_line s ++ details_text details (codes "descriptor") s.descriptors
+    ++ optional (event_text details (codes "now")) s.now ++ optional (event_text details (codes "next")) s.next
+    ++ flat_map (event_text details (codes "event")) s.events
 
 -- another stream, and its services
-abbrev pub other_text : ScreenOther → List ℕ
-other_text o = other_line o ++ flat_map remote_text o.services
+abbrev pub other_text : Bool → ScreenOther → List ℕ
+other_text details o = other_line o ++ details_text details (codes "descriptor") o.descriptors ++ flat_map (remote_text details) o.services
 
 -- ---- the whole screen
 
-abbrev pub screen_text : Screen → List ℕ
-screen_text s =
-    clock_line s.clock.0 ++ flat_map (local_line s.clock.0) s.offsets ++ network_line s ++ stream_line s ++ optional cable_line s.cable
-    ++ flat_map service_text s.services ++ flat_map other_text s.others
+abbrev pub network_text : Bool → Screen → List ℕ
+network_text details s = network_line s ++ details_text details (codes "descriptor") s.network_descriptors
+
+abbrev pub stream_text : Bool → Screen → List ℕ
+stream_text details s = stream_line s ++ optional cable_line s.cable ++ details_text details (codes "descriptor") s.stream_descriptors
+
+abbrev pub screen_text : Bool → Screen → List ℕ
+screen_text details s =
+    clock_line s.clock.0 ++ flat_map (local_line s.clock.0) s.offsets ++ network_text details s ++ stream_text details s
+    ++ flat_map (service_text details) s.services ++ flat_map (other_text details) s.others
 
 -- ---- the guide
 
-abbrev pub guide_lines : Heard → List ℕ
-guide_lines (Whole shown) = screen_text shown
-guide_lines (Wanting wanting) = flat_map need_line wanting
+abbrev pub guide_lines : Bool → Heard → List ℕ
+guide_lines details (Whole shown) = screen_text details shown
+guide_lines details (Wanting wanting) = flat_map need_line wanting
 
--- the whole screen, or the needs that are not met; and then `end`
+-- the whole screen, with details or without, or the needs that are not met; and then `end`
+abbrev pub guide_text_with : Bool → Heard → List ℕ
+guide_text_with details heard = guide_lines details heard ++ line (codes "end" ∷ [])
+
 abbrev pub guide_text : Heard → List ℕ
-guide_text heard = guide_lines heard ++ line (codes "end" ∷ [])
+guide_text heard = guide_text_with false heard

@@ -1,3 +1,4 @@
 pub mod Fields
 pub mod Guides
+pub mod Laws
 mod Rows

@@ -2,8 +2,9 @@
 ghost use Rattle.std.specs.Prelude.{◌≡◌, ◌++◌, ◌∷◌, Option, OnOk, decimal, flat_map};
 ghost use Rattle.guide_model.specs.Genres.{genres_text};
 ghost use Rattle.guide_text.specs.Fields.{shown_text, code_text, moment_field, duration_field, optional};
-ghost use Rattle.guide_text.specs.Guides.{country_text, value_text, event_line};
+ghost use Rattle.guide_text.specs.Guides.{country_text, value_text, event_line, event_text};
 
+use crate::details::put_details;
 use crate::field::{
     put_code, put_decimal, put_duration, put_field, put_genres, put_moment, put_shown,
 };
@@ -49,8 +50,8 @@ fn put_rating(alloc: Global, out: &mut Vec<u8>, rating: Option<Rating>) -> Resul
     }
 }
 
-/// Appends the line of an event, which begins with this word.
-pub(crate) fn put_event(
+// Appends the line of an event, which begins with this word.
+fn put_event_line(
     alloc: Global,
     out: &mut Vec<u8>,
     word: &[u8],
@@ -66,32 +67,54 @@ pub(crate) fn put_event(
     out.extend_from_slice(b"\n")
 }
 
-/// Appends the line of an event, where there is one.
+// Appends the lines of an event: its own, which begins with this word, and with details those of its further descriptors.
+fn put_event(
+    alloc: Global,
+    out: &mut Vec<u8>,
+    details: bool,
+    word: &[u8],
+    event: &ScreenEvent,
+) -> Result<(), AllocError>
+    ensures { OnOk result (out.new.items ≡ out.old.items ++ event_text details word.now event.now) }
+{
+    put_event_line(alloc, out, word, event)?;
+    put_details(
+        alloc,
+        out,
+        details,
+        b"descriptor",
+        event.descriptors.as_slice(),
+    )
+}
+
+/// Appends the lines of an event, with details or without, where there is one. The first begins with this word.
 pub fn put_some_event(
     alloc: Global,
     out: &mut Vec<u8>,
+    details: bool,
     word: &[u8],
     event: &Option<ScreenEvent>,
 ) -> Result<(), AllocError>
-    ensures { OnOk result (out.new.items ≡ out.old.items ++ optional (event_line word.now) event.now) }
+    ensures { OnOk result (out.new.items ≡ out.old.items ++ optional (event_text details word.now) event.now) }
 {
     match event {
-        Some(event) => put_event(alloc, out, word, event),
+        Some(event) => put_event(alloc, out, details, word, event),
         None => Ok(()),
     }
 }
 
-/// Appends the lines of events, which begin with this word.
+/// Appends the lines of events, with details or without. The first of each begins with this word.
 pub fn put_events(
     alloc: Global,
     out: &mut Vec<u8>,
+    details: bool,
     word: &[u8],
     events: &[ScreenEvent],
 ) -> Result<(), AllocError>
-    ensures { OnOk result (out.new.items ≡ out.old.items ++ flat_map (event_line word.now) events.now) }
+    ensures { OnOk result (out.new.items ≡ out.old.items ++ flat_map (event_text details word.now) events.now) }
 {
     for event in events {
-        put_event(alloc, out, word, event)?;
+        put_event(alloc, out, details, word, event)?;
     }
     Ok(())
 }

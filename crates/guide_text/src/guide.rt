@@ -1,6 +1,6 @@
 // The text of a guide.
 ghost use Rattle.std.specs.Prelude.{◌≡◌, ◌++◌, IfOk, OnOk, OnErr};
-ghost use Rattle.guide_text.specs.Guides.{guide_text};
+ghost use Rattle.guide_text.specs.Guides.{guide_text, guide_text_with};
 
 use crate::need::put_needs;
 use crate::screen::put_screen;
@@ -8,12 +8,12 @@ use guide_screen::Heard;
 use std::alloc::{AllocError, Global};
 
 // The text of a guide in a list of its own.
-fn text_of(alloc: Global, heard: &Heard) -> Result<Vec<u8>, AllocError>
-    ensures { IfOk result (λ text. text.items ≡ guide_text heard.now) }
+fn text_of(alloc: Global, details: bool, heard: &Heard) -> Result<Vec<u8>, AllocError>
+    ensures { IfOk result (λ text. text.items ≡ guide_text_with details heard.now) }
 {
     let mut text = Vec::new(alloc);
     match heard {
-        Heard::Whole(screen) => put_screen(alloc, &mut text, screen)?,
+        Heard::Whole(screen) => put_screen(alloc, &mut text, details, screen)?,
         Heard::Wanting(needs) => put_needs(alloc, &mut text, needs.as_slice())?,
     }
     text.extend_from_slice(b"end\n")?;
@@ -33,6 +33,24 @@ pub fn print_heard(alloc: Global, heard: &Heard, out: &mut Vec<u8>) -> Result<()
     ensures text { OnOk result (out.new.items ≡ out.old.items ++ guide_text heard.now) }
     ensures kept { OnErr result (out.new.items ≡ out.old.items) }
 {
-    let text = text_of(alloc, heard)?;
+    print_heard_with(alloc, false, heard, out)
+}
+
+/// Appends the text of a guide, with details or without. With details each line `network`, `service`,
+/// `component`, `now`, `next`, `event`, `other` and `remote`, and the lines `stream` and `cable`, are
+/// followed by a line `descriptor` for each descriptor that they do not show whole, in the order in
+/// which these stand: its tag, its length and its body, two lower-case digits a byte (EN 300 468,
+/// 6.1). Those of the program of a service follow with the word `program`. Want of memory leaves
+/// `out` with what it had.
+pub fn print_heard_with(
+    alloc: Global,
+    details: bool,
+    heard: &Heard,
+    out: &mut Vec<u8>,
+) -> Result<(), AllocError>
+    ensures text { OnOk result (out.new.items ≡ out.old.items ++ guide_text_with details heard.now) }
+    ensures kept { OnErr result (out.new.items ≡ out.old.items) }
+{
+    let text = text_of(alloc, details, heard)?;
     out.extend_from_slice(&text)
 }

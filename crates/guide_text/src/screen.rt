@@ -1,9 +1,10 @@
 // The lines of a whole screen.
 ghost use Rattle.std.specs.Prelude.{◌≡◌, ◌++◌, OnOk};
 ghost use Rattle.guide_text.specs.Fields.{optional};
-ghost use Rattle.guide_text.specs.Guides.{clock_line, network_line, stream_line, cable_line, screen_text};
+ghost use Rattle.guide_text.specs.Guides.{clock_line, network_line, network_text, stream_line, stream_text, cable_line, screen_text};
 
 use crate::cable::put_cable_numbers;
+use crate::details::put_details;
 use crate::field::{put_decimal, put_moment, put_shown};
 use crate::local::put_offsets;
 use crate::others::put_others;
@@ -22,7 +23,7 @@ pub fn put_clock(out: &mut Vec<u8>, clock: Moment) -> Result<(), AllocError>
 }
 
 // Appends the line of the network.
-fn put_network(alloc: Global, out: &mut Vec<u8>, screen: &Screen) -> Result<(), AllocError>
+fn put_network_line(alloc: Global, out: &mut Vec<u8>, screen: &Screen) -> Result<(), AllocError>
     ensures { OnOk result (out.new.items ≡ out.old.items ++ network_line screen.now) }
 {
     out.extend_from_slice(b"network")?;
@@ -31,8 +32,22 @@ fn put_network(alloc: Global, out: &mut Vec<u8>, screen: &Screen) -> Result<(), 
     out.extend_from_slice(b"\n")
 }
 
+// Appends the lines of the network: its own, and with details those of its further descriptors.
+fn put_network(
+    alloc: Global,
+    out: &mut Vec<u8>,
+    details: bool,
+    screen: &Screen,
+) -> Result<(), AllocError>
+    ensures { OnOk result (out.new.items ≡ out.old.items ++ network_text details screen.now) }
+{
+    let further = screen.network_descriptors.as_slice();
+    put_network_line(alloc, out, screen)?;
+    put_details(alloc, out, details, b"descriptor", further)
+}
+
 // Appends the line of the stream.
-fn put_stream(alloc: Global, out: &mut Vec<u8>, screen: &Screen) -> Result<(), AllocError>
+fn put_stream_line(alloc: Global, out: &mut Vec<u8>, screen: &Screen) -> Result<(), AllocError>
     ensures { OnOk result (out.new.items ≡ out.old.items ++ stream_line screen.now) }
 {
     out.extend_from_slice(b"stream")?;
@@ -64,19 +79,34 @@ pub fn put_some_cable(
     }
 }
 
-/// Appends the lines of a screen.
+// Appends the lines of the stream: its own, how it is sent by cable, and with details those of its further descriptors.
+fn put_stream(
+    alloc: Global,
+    out: &mut Vec<u8>,
+    details: bool,
+    screen: &Screen,
+) -> Result<(), AllocError>
+    ensures { OnOk result (out.new.items ≡ out.old.items ++ stream_text details screen.now) }
+{
+    let further = screen.stream_descriptors.as_slice();
+    put_stream_line(alloc, out, screen)?;
+    put_some_cable(alloc, out, screen.cable)?;
+    put_details(alloc, out, details, b"descriptor", further)
+}
+
+/// Appends the lines of a screen, with details or without.
 pub(crate) fn put_screen(
     alloc: Global,
     out: &mut Vec<u8>,
+    details: bool,
     screen: &Screen,
 ) -> Result<(), AllocError>
-    ensures { OnOk result (out.new.items ≡ out.old.items ++ screen_text screen.now) }
+    ensures { OnOk result (out.new.items ≡ out.old.items ++ screen_text details screen.now) }
 {
     put_clock(out, screen.clock)?;
     put_offsets(alloc, out, screen.clock, screen.offsets.as_slice())?;
-    put_network(alloc, out, screen)?;
-    put_stream(alloc, out, screen)?;
-    put_some_cable(alloc, out, screen.cable)?;
-    put_services(alloc, out, screen.services.as_slice())?;
-    put_others(alloc, out, screen.others.as_slice())
+    put_network(alloc, out, details, screen)?;
+    put_stream(alloc, out, details, screen)?;
+    put_services(alloc, out, details, screen.services.as_slice())?;
+    put_others(alloc, out, details, screen.others.as_slice())
 }

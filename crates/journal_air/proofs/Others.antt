@@ -7,6 +7,7 @@ use Rattle.si_lists.proofs.Lists.{all_map, all_to_map}
 use Rattle.si_lists.proofs.Filters.{all_stay}
 use Rattle.guide_model.specs.declared.shown.Shown.TheVariants.{Text}
 use Rattle.guide_model.specs.declared.stream.Cable.{Cable}
+use Rattle.guide_model.specs.declared.descriptor.RawDesc.{RawDesc}
 use Rattle.guide_model.specs.declared.guide.Guide.{Guide}
 use Rattle.guide_model.specs.declared.guide.ServiceGuide.{ServiceGuide}
 use Rattle.guide_model.specs.declared.screen.ScreenEvent.{ScreenEvent}
@@ -28,14 +29,14 @@ use Rattle.publication.specs.Schedule.{remote_tables}
 use Rattle.guide_screen.specs.View.{sections, table_at}
 use Rattle.guide_screen.specs.Reading.{services_in}
 use Rattle.guide_screen.specs.Needs.{by_service}
-use Rattle.guide_screen.specs.Screen.{cable_in, event_at, schedule_of, remote_service, remote_services, other_stream, other_streams, is_other}
+use Rattle.guide_screen.specs.Screen.{cable_in, descriptors_in, event_at, schedule_of, remote_service, remote_services, other_stream, other_streams, is_other}
 use Rattle.publication.specs.Network.{remote_kind, remote_kinds, stream_of, other_stream as stream_sent}
 use Rattle.publication.specs.Parts.{part_of}
 use Rattle.publication.specs.Sdt.{named_service, sdt_services}
 use Rattle.publication.specs.Tables.{other_sdt_key, other_sdt_table, bearer_of}
 use Rattle.publication.proofs.PartFacts.{part_id}
 use Rattle.journal_air.specs.Screen.{now_shown, next_shown, part_shown, other_shown}
-use Rattle.journal_air.proofs.Own.{IsNamed, sdt_said, remote_in_order, cables_said}
+use Rattle.journal_air.proofs.Own.{IsNamed, sdt_said, remote_in_order, cables_said, none_further}
 use Rattle.journal_air.proofs.Events.{HasIds}
 use Rattle.journal_air.proofs.Schedules.{AreSentAt, has_all}
 use Rattle.journal_air.proofs.Held.{Held, CanBeShown, HasEvents, now_is, next_is, events_are}
@@ -79,6 +80,7 @@ module _ (guide : Guide) (content : Key → Option Content) (o : Other) (ids : H
       kind = s.kind;
       provider = Text g.provider;
       name = Text g.name;
+      descriptors = [];
       now = now;
       next = next;
       events = events;
@@ -123,13 +125,17 @@ module _ (guide : Guide) (content : Key → Option Content) (o : Other) (ids : H
       ∙ ap (map (remote_service content sdt)) (remote_in_order guide o has.sound.ascend)
       ∙ remotes_are o.services (remotes_have o.services has.can has.presents has.tables)
 
-abbrev other_with : Other → Option Cable → List ScreenRemote → ScreenOther
-other_with o cable services = record { stream = o.stream; original = o.original; cable = cable; services = services }
+abbrev other_with : Other → Option Cable → List RawDesc → List ScreenRemote → ScreenOther
+other_with o cable further services = record { stream = o.stream; original = o.original; cable = cable; descriptors = further; services = services }
 
-other_is : SdtReadsBack → (guide : Guide) → IsGuideWithin guide → (content : Key → Option Content) (streams : List NitStream) (o : Other) → HasOther guide content o
+-- no entry has further descriptors
+abbrev NoneFurther : List NitStream → Type 0
+NoneFurther streams = (a b : ℕ) → descriptors_in a b streams ≡ []
+
+other_is : SdtReadsBack → (guide : Guide) → IsGuideWithin guide → (content : Key → Option Content) (streams : List NitStream) (o : Other) → NoneFurther streams → HasOther guide content o
     → cable_in o.stream o.original streams ≡ o.cable → other_stream content streams (other_sdt_key o) ≡ other_shown guide o
-other_is back guide within content streams o has cable =
-    ap₂ (other_with o) cable (services_are guide content o has.ids back within has)
+other_is back guide within content streams o none has cable =
+    (λ i. other_with o (cable i) (none o.stream o.original i) (services_are guide content o has.ids back within has i))
 
 -- ---- all of them
 
@@ -145,12 +151,12 @@ others_stay mux os apart =
     turned : (a b c d : ℕ) → (a == c && b == d) ≡ false → (c == a && d == b) ≡ false
     turned a b c d e = grind (arith, nat_tests)
 
-others_each : SdtReadsBack → (guide : Guide) → IsGuideWithin guide → (content : Key → Option Content) (streams : List NitStream) (os : List Other) → AllByRecursion (HasOther guide content) os
+others_each : SdtReadsBack → (guide : Guide) → IsGuideWithin guide → (content : Key → Option Content) (streams : List NitStream) → NoneFurther streams → (os : List Other) → AllByRecursion (HasOther guide content) os
     → AllByRecursion (λ (o : Other). cable_in o.stream o.original streams ≡ o.cable) os → map (other_stream content streams) (map other_sdt_key os) ≡ map (other_shown guide) os
-others_each back guide within content streams [] has cables = refl
-others_each back guide within content streams (o ∷ os) has cables =
-    ap₂ (λ (x : ScreenOther) (l : List ScreenOther). x ∷ l) (other_is back guide within content streams o has.0 cables.0)
-    (others_each back guide within content streams os has.1 cables.1)
+others_each back guide within content streams none [] has cables = refl
+others_each back guide within content streams none (o ∷ os) has cables =
+    ap₂ (λ (x : ScreenOther) (l : List ScreenOther). x ∷ l) (other_is back guide within content streams o none has.0 cables.0)
+    (others_each back guide within content streams none os has.1 cables.1)
 
 -- the entry of the multiplex itself is passed over
 cables_found : (mux : Mux) (os all : List Other) → AllByRecursion (λ (o : Other). has_stream_ids mux.stream mux.original o ≡ false) os
@@ -167,5 +173,5 @@ pub others_are : SdtReadsBack → (mux : Mux) → IsSoundWithIds mux → (guide 
 others_are back mux sound guide within content has =
     let streams : List NitStream = stream_of mux ∷ map stream_sent mux.others in
     ap (map (other_stream content streams)) (others_stay mux mux.others sound.sound.others.apart)
-    ∙ others_each back guide within content streams mux.others has
+    ∙ others_each back guide within content streams (none_further mux) mux.others has
     (cables_found mux mux.others mux.others sound.sound.others.apart (cables_said mux.others sound.sound.others.ascend))

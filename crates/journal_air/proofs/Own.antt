@@ -7,6 +7,7 @@ use Rattle.std.proofs.lemmas.List.Elements.{recursion_from_All}
 use Rattle.si_lists.proofs.Lists.{all_map, all_through, all_to_map, all_two, all_front, all_behind}
 use Rattle.guide_model.specs.Decoding.{IsKept}
 use Rattle.guide_model.proofs.RoundTrip.{decoded-coded}
+use Rattle.guide_model.specs.declared.descriptor.RawDesc.{RawDesc}
 use Rattle.guide_model.specs.declared.guide.Guide.{Guide}
 use Rattle.guide_model.specs.declared.guide.ServiceGuide.{ServiceGuide}
 use Rattle.mux_model.specs.declared.mux.MuxService.{MuxService}
@@ -19,7 +20,7 @@ use Rattle.guide_limits.specs.Limits.{IsServiceWithin, IsGuideWithin}
 use Rattle.si_lists.specs.Runs.{longest_runs}
 use Rattle.si_lists.proofs.RunFacts.{are_longest}
 use Rattle.table_bodies.specs.Pat.{pat_in, pat_body, FitsProgram}
-use Rattle.table_bodies.specs.Pmt.{pmt_body, pmt_in}
+use Rattle.table_bodies.specs.Pmt.{pmt_body, pmt_in, shown_pmt}
 use Rattle.table_bodies.proofs.Programs.{pat-reads_back, pmt-reads_back}
 use Rattle.descriptors.specs.declared.service_list.ServiceKind.{ServiceKind}
 use Rattle.table_bodies.specs.declared.sdt.SdtService.{SdtService}
@@ -28,7 +29,7 @@ use Rattle.table_bodies.specs.Nit.{nit_body, nit_in, FitsStream, HasStreamWidths
 use Rattle.table_bodies.specs.Sdt.{sdt_in, HasServiceWidths, SdtReadsBack}
 use Rattle.guide_screen.specs.Reading.{services_in}
 use Rattle.guide_screen.specs.Needs.{with_service, by_service}
-use Rattle.guide_screen.specs.Screen.{pid_in, cable_in}
+use Rattle.guide_screen.specs.Screen.{pid_in, cable_in, descriptors_in}
 use Rattle.publication.specs.Programs.{program_entry, pat_of, pmt_of}
 use Rattle.publication.specs.Network.{nit_of, kind_of, remote_kind, own_kinds, remote_kinds, other_stream}
 use Rattle.publication.specs.Parts.{part_of}
@@ -47,7 +48,7 @@ pub pat_said : (mux : Mux) → IsSound mux → pat_in (pat_body (pat_of mux)) �
 pat_said mux sound =
     pat-reads_back (pat_of mux) (record { program = omega arith; pid = omega arith }, programs_fit mux.services sound.services)
 
-pub pmt_said : (s : MuxService) → IsSoundService s → pmt_in (pmt_body (pmt_of s)) ≡ Some (pmt_of s)
+pub pmt_said : (s : MuxService) → IsSoundService s → pmt_in (pmt_body (pmt_of s)) ≡ Some (shown_pmt (pmt_of s))
 pmt_said s sound = pmt-reads_back (pmt_of s) (pmt_fits s sound)
 
 -- the PID of each PMT is found under its program
@@ -72,9 +73,10 @@ pids_said (s ∷ ss) up = (
 pub nit_said : NitReadsBack → (mux : Mux) → IsSoundWithIds mux → IsKept mux.network_name → nit_in (nit_body (nit_of mux)) ≡ Some (nit_of mux)
 nit_said back mux sound kept =
     back (nit_of mux) (record {
+      no_further = refl;
       name = name_fits mux sound.sound;
       shown = decoded-coded mux.network_name kept;
-      streams = (record { stream = sound.stream; original = sound.original; services = kinds_fit mux.services sound.sound.services; fits = fits.0 }, others_fit mux.others sound.others sound.sound.others.each fits.1);
+      streams = (record { stream = sound.stream; original = sound.original; services = kinds_fit mux.services sound.sound.services; fits = fits.0; no_further = refl }, others_fit mux.others sound.others sound.sound.others.each fits.1);
       within = omega (arith, streams_short mux sound.sound);
     })
   where
@@ -92,7 +94,7 @@ nit_said back mux sound kept =
     others_fit : (os : List Other) → AllByRecursion HasStreamIds os → AllByRecursion IsSoundOther os → AllByRecursion FitsStream (map other_stream os) → AllByRecursion HasStreamWidths (map other_stream os)
     others_fit [] ids sound fit = tt
     others_fit (o ∷ os) ids sound fit =
-        (record { stream = ids.0.stream; original = ids.0.original; services = remotes_fit o.services sound.0.services; fits = fit.0 }, others_fit os ids.1 sound.1 fit.1)
+        (record { stream = ids.0.stream; original = ids.0.original; services = remotes_fit o.services sound.0.services; fits = fit.0; no_further = refl }, others_fit os ids.1 sound.1 fit.1)
 
 -- ---- services
 
@@ -111,6 +113,7 @@ named_wide guide s named =
     record {
       service = named.service;
       fits = service_fits s g named.within;
+      no_further = refl;
       shown = record { provider = decoded-coded g.provider named.kept.0; name = decoded-coded g.name named.kept.1 };
     }
 
@@ -199,3 +202,15 @@ cables_said (o ∷ os) up = (
 
     later : (a b c d : ℕ) → (nat_lt a c || (a == c && nat_lt b d)) ≡ true → (a == c && b == d) ≡ false
     later a b c d before = grind (arith, nat_tests)
+
+-- no entry has further descriptors
+pub none_further : (mux : Mux) (a b : ℕ) → descriptors_in a b (nit_of mux).streams ≡ []
+none_further mux a b = either (mux.stream == a && mux.original == b) (descriptors_in a b (map other_stream mux.others)) (others mux.others)
+  where
+    either : (is : Bool) (ds : List RawDesc) → ds ≡ [] → (if is then [] else ds) ≡ []
+    either true ds none = refl
+    either false ds none = none
+
+    others : (os : List Other) → descriptors_in a b (map other_stream os) ≡ []
+    others [] = refl
+    others (o ∷ os) = either (o.stream == a && o.original == b) (descriptors_in a b (map other_stream os)) (others os)

@@ -26,7 +26,7 @@ use Rattle.desk_core.proofs.DerivedFacts.{not_aired}
 use Rattle.desk_core.proofs.JournalFacts.{publication-kept, aired-swap, legal_more}
 use Rattle.publication.specs.Tables.{tables_of}
 use Rattle.journal_air.specs.Air.{mux_form, airings, airings_by, airing_at}
-use Rattle.journal_air.specs.OnAir.{cycle_bytes, airing_on, IsPlayerOf, HasSentAll, HasAired, SentCycle, AiredTo, and_step, is_swap}
+use Rattle.journal_air.specs.OnAir.{AreAlike, cycle_bytes, airing_on, IsPlayerOf, HasSentAll, HasAired, SentCycle, AiredTo, and_step, is_swap}
 use Rattle.journal_air.specs.declared.send.SendStop.{SendStop}
 use Rattle.journal_air.specs.declared.send.SendStop.TheVariants.{Air as OnFault, Memory}
 
@@ -141,13 +141,8 @@ pub airings_of-append : (xs ys : List Aired) → airings_of (xs ++ ys) ≡ airin
 airings_of-append [] ys = refl
 airings_of-append (x ∷ xs) ys = ap (λ l. x.airing ∷ l) (airings_of-append xs ys)
 
--- what a player keeps while it sends
-pub record KeepsForm (old new : Sending) : Type 0 where
-  pub form : new.form ≡ old.form
-  pub rate : new.rate ≡ old.rate
-
 -- a player of a multiplex stays one
-pub player_kept : (mux : Mux) (old new : Sending) → KeepsForm old new → IsPlayerOf mux old → IsPlayerOf mux new
+pub player_kept : (mux : Mux) (old new : Sending) → AreAlike old new → IsPlayerOf mux old → IsPlayerOf mux new
 player_kept mux old new kept is = record { form = kept.form ∙ is.form; rate = kept.rate ∙ is.rate }
 
 -- what a player of a multiplex sent is made at the rate of the multiplex
@@ -156,7 +151,7 @@ made_at : (mux : Mux) (player : Sending) (before : List Aired) (x : Aired) (a : 
 made_at mux player before x a rate e made = made ∙ ap (λ (r : Option ℕ). cycle_at r before a) rate ∙ ap (cycle_at mux.rate before) (sym e)
 
 -- one more cycle was sent
-swap_sent : (earlier : List Aired) (desk : DeskState) (who : ℕ) (step : Step) (old new : Sending) (xs : List Aired) (x : Aired) → Legal desk.mux desk.entries → is_swap step ≡ true → HasSentAll earlier desk old xs → KeepsForm old new
+swap_sent : (earlier : List Aired) (desk : DeskState) (who : ℕ) (step : Step) (old new : Sending) (xs : List Aired) (x : Aired) → Legal desk.mux desk.entries → is_swap step ≡ true → HasSentAll earlier desk old xs → AreAlike old new
     → x.airing ≡ airing_on (and_step desk who step) old.form → x.packets ≡ cycle_at new.rate (earlier ++ xs) (airing_on (and_step desk who step) old.form) → AtEnd ((earlier ++ xs) ++ x ∷ []) new
     → HasSentAll earlier (and_step desk who step) new (xs ++ x ∷ [])
 swap_sent earlier desk who step old new xs x legal h sent kept e made at_end =
@@ -168,7 +163,7 @@ swap_sent earlier desk who step old new xs x legal h sent kept e made at_end =
       player_of = is;
     }
 
-pub swap_aired : (earlier : List Aired) (desk : DeskState) (who : ℕ) (step : Step) (old new : Sending) (before mid now : Option (List ℕ)) (r : Result (Unit {0}) SendStop) → Legal desk.mux desk.entries → is_swap step ≡ true → KeepsForm old new
+pub swap_aired : (earlier : List Aired) (desk : DeskState) (who : ℕ) (step : Step) (old new : Sending) (before mid now : Option (List ℕ)) (r : Result (Unit {0}) SendStop) → Legal desk.mux desk.entries → is_swap step ≡ true → AreAlike old new
     → HasAired earlier desk old before mid → ((xs : List Aired) → AtEnd xs old → SentCycle xs (airing_on (and_step desk who step) old.form) new mid now r) → AiredTo earlier (and_step desk who step) new before now r
 swap_aired earlier desk who step old new before mid now (Ok u) legal h kept (xs, sent, bytes) sends =
     let (x, e, made, ended, took) = sends (earlier ++ xs) sent.at_end in (
@@ -201,7 +196,7 @@ swap_aired earlier desk who step old new before mid now (Err OnFault) legal h ke
 
 -- ---- the same, of a desk that did the step
 
-pub after_swap_aired : (earlier : List Aired) (desk after : DeskState) (who : ℕ) (step : Step) (old new : Sending) (before mid now : Option (List ℕ)) (r : Result (Unit {0}) SendStop) → after ≡ and_step desk who step → Legal desk.mux desk.entries → is_swap step ≡ true → KeepsForm old new
+pub after_swap_aired : (earlier : List Aired) (desk after : DeskState) (who : ℕ) (step : Step) (old new : Sending) (before mid now : Option (List ℕ)) (r : Result (Unit {0}) SendStop) → after ≡ and_step desk who step → Legal desk.mux desk.entries → is_swap step ≡ true → AreAlike old new
     → HasAired earlier desk old before mid → ((xs : List Aired) → AtEnd xs old → SentCycle xs (airing_on after old.form) new mid now r) → AiredTo earlier after new before now r
 after_swap_aired earlier desk after who step old new before mid now r e legal h kept has =
     subst (λ (d : DeskState). ((xs : List Aired) → AtEnd xs old → SentCycle xs (airing_on d old.form) new mid now r) → AiredTo earlier d new before now r) (sym e) (swap_aired earlier desk who step old new before mid now r legal h kept has)

@@ -8,6 +8,7 @@ use Rattle.si_lists.proofs.Lists.{all_append, all_front, all_behind, all_of_map}
 use Rattle.guide_model.specs.declared.shown.Shown.{Shown}
 use Rattle.guide_model.specs.declared.shown.Shown.TheVariants.{Text}
 use Rattle.guide_model.specs.declared.stream.Cable.{Cable}
+use Rattle.guide_model.specs.declared.descriptor.RawDesc.{RawDesc}
 use Rattle.guide_model.specs.declared.guide.Guide.{Guide}
 use Rattle.guide_model.specs.declared.guide.ServiceGuide.{ServiceGuide}
 use Rattle.guide_model.specs.declared.screen.ScreenEvent.{ScreenEvent}
@@ -26,11 +27,11 @@ use Rattle.section_codec.specs.declared.table.Key.{Key}
 use Rattle.section_codec.specs.declared.table.SubTable.{SubTable}
 use Rattle.section_codec.specs.Contents.{Content, numbers_from}
 use Rattle.table_bodies.specs.declared.pat.PatEntry.{PatEntry}
-use Rattle.table_bodies.specs.declared.pmt.Pmt.{Pmt}
+use Rattle.table_bodies.specs.declared.pmt.HeardPmt.{HeardPmt}
 use Rattle.table_bodies.specs.declared.nit.Nit.{Nit}
 use Rattle.table_bodies.specs.declared.nit.NitStream.{NitStream}
 use Rattle.table_bodies.specs.declared.sdt.SdtService.{SdtService}
-use Rattle.table_bodies.specs.Pmt.{pmt_in}
+use Rattle.table_bodies.specs.Pmt.{pmt_in, shown_pmt}
 use Rattle.table_bodies.specs.Nit.{nit_body, nit_in, NitReadsBack}
 use Rattle.table_bodies.specs.Sdt.{SdtReadsBack}
 use Rattle.publication.specs.Eit.{own, eit_key}
@@ -44,19 +45,19 @@ use Rattle.guide_screen.specs.declared.need.Heard.TheVariants.{Whole}
 use Rattle.guide_screen.specs.View.{View, sections, sections_at, sdt_behind, sdt_of, table_at, pmt_key as guide_pmt_key}
 use Rattle.guide_screen.specs.Reading.{programs_in, services_in, streams_in, value_in}
 use Rattle.guide_screen.specs.Needs.{Want, by_service, last_table, needs, programs_of, schedule_tables, services_of, tables_to, unless, unmet_of, want_pmt, want_service, want_services, want_table, wants}
-use Rattle.guide_screen.specs.Screen.{cable_in, event_at, heard_by, heard_of, network_name, other_streams, pid_in, pmt_of, pmt_pid, schedule_of, screen, screen_service}
+use Rattle.guide_screen.specs.Screen.{cable_in, descriptors_in, event_at, heard_by, heard_of, network_descriptors, network_name, other_streams, pid_in, pmt_of, pmt_pid, schedule_of, screen, screen_service}
 use Rattle.publication.specs.Network.{kind_of, own_kinds, other_stream as stream_sent, nit_key, nit_of, nit_table}
 use Rattle.publication.specs.Programs.{network_entry, program_entry, pat_of, pat_key, pat_table, pmt_tables}
 use Rattle.publication.specs.Programs as programs
 use Rattle.publication.specs.Laws.{HasPartsOf}
 use Rattle.publication.specs.Parts.{part_of, own_guide, remote_guide}
 use Rattle.publication.specs.Sdt.{sdt_service, named_service, sdt_services}
-use Rattle.publication.specs.Tables.{HasServicesOf, sdt_key, sdt_table, present_tables, all_near_tables, all_far_tables, other_sdt_key, other_sdt_table, other_sdt_tables, bearer_of, remote_presents, remote_schedules, all_remote_presents, all_remote_schedules, near_part, far_part}
+use Rattle.publication.specs.Tables.{HasServicesOf, sdt_key, sdt_table, present_tables, all_near_tables, all_far_tables, other_sdt_table, other_sdt_tables, bearer_of, remote_presents, remote_schedules, all_remote_presents, all_remote_schedules, near_part, far_part}
 use Rattle.publication.proofs.PartFacts.{part_id, of_parts, of_remote, others_have as others_have_parts}
 use Rattle.journal_air.specs.Screen.{now_shown, next_shown, service_shown, services_shown, screen_of}
 use Rattle.journal_air.specs.PublicationScreenShown.{HasPublication, HasKeptNames}
 use Rattle.journal_air.specs.PublicationScreenLaws.{PublicationIsShown}
-use Rattle.journal_air.proofs.Own.{IsNamed, pat_said, pmt_said, pids_said, nit_said, sdt_said, own_in_order}
+use Rattle.journal_air.proofs.Own.{IsNamed, pat_said, pmt_said, pids_said, nit_said, none_further, sdt_said, own_in_order}
 use Rattle.journal_air.proofs.Events.{HasIds}
 use Rattle.journal_air.proofs.Schedules.{AreSentAt, HasTable, has_tables}
 use Rattle.journal_air.proofs.Held.{Held, CanBeShown, parts_can_be_shown, HasEvents, present_is, now_is, next_is, last_told, events_are}
@@ -110,21 +111,23 @@ module _ (mux : Mux) (ids : HasIds (own mux)) (guide : Guide) (moment : ℕ) (co
   sdt = sdt_key mux
 
   module _ (s : MuxService) (g : ServiceGuide) (has : HasService mux moment content s g) where
-    abbrev made : Option ℕ → Option Pmt → Option ScreenEvent → Option ScreenEvent → List ScreenEvent → ScreenService
+    abbrev made : Option ℕ → Option HeardPmt → Option ScreenEvent → Option ScreenEvent → List ScreenEvent → ScreenService
     made pid pmt now next events = record {
       service = s.service;
       kind = s.kind;
       provider = Text g.provider;
       name = Text g.name;
+      descriptors = [];
       pmt_pid = pid;
       pcr_pid = option_map (λ p. p.pcr_pid) pmt;
+      program_descriptors = unwrap_or (option_map (λ p. p.descriptors) pmt) [];
       components = unwrap_or (option_map (λ p. p.components) pmt) [];
       now = now;
       next = next;
       events = events;
     }
 
-    pmt_is : pmt_of content s.service (Some s.pmt_pid) ≡ Some (programs.pmt_of s)
+    pmt_is : pmt_of content s.service (Some s.pmt_pid) ≡ Some (shown_pmt (programs.pmt_of s))
     pmt_is = ap (λ (o : Option Content). value_in pmt_in 0 (sections o)) has.pmt ∙ pmt_said s has.sound
 
     service_is : (es : List PatEntry) → pmt_pid es s.service ≡ Some s.pmt_pid → screen_service content es sdt (sdt_service (kind_of s) g) ≡ service_shown moment s g
@@ -133,12 +136,12 @@ module _ (mux : Mux) (ids : HasIds (own mux)) (guide : Guide) (moment : ℕ) (co
         let next = event_at 1 (table_at content sdt s.service 0x4E) in
         let events = schedule_of content sdt s.service 0x50 0x5F in
         ap (λ (o : Option ℕ). made o (pmt_of content s.service o) now next events) pid
-        ∙ ap (λ (o : Option Pmt). made (Some s.pmt_pid) o now next events) pmt_is
-        ∙ ap (λ (o : Option ScreenEvent). made (Some s.pmt_pid) (Some (programs.pmt_of s)) o next events)
+        ∙ ap (λ (o : Option HeardPmt). made (Some s.pmt_pid) o now next events) pmt_is
+        ∙ ap (λ (o : Option ScreenEvent). made (Some s.pmt_pid) (Some (shown_pmt (programs.pmt_of s))) o next events)
         (now_is (own mux) ids (as_they_are mux) moment content s.service g has.same has.events)
-        ∙ ap (λ (o : Option ScreenEvent). made (Some s.pmt_pid) (Some (programs.pmt_of s)) (now_shown moment g) o events)
+        ∙ ap (λ (o : Option ScreenEvent). made (Some s.pmt_pid) (Some (shown_pmt (programs.pmt_of s))) (now_shown moment g) o events)
         (next_is (own mux) ids (as_they_are mux) moment content s.service g has.same has.events)
-        ∙ ap (λ (l : List ScreenEvent). made (Some s.pmt_pid) (Some (programs.pmt_of s)) (now_shown moment g) (next_shown moment g) l)
+        ∙ ap (λ (l : List ScreenEvent). made (Some s.pmt_pid) (Some (shown_pmt (programs.pmt_of s))) (now_shown moment g) (next_shown moment g) l)
         (events_are (own mux) ids (as_they_are mux) moment content s.service g has.same has.events)
 
     -- its wants are met
@@ -356,6 +359,11 @@ module _ (nit_back : NitReadsBack) (sdt_back : SdtReadsBack) (mux : Mux) (guide 
       ap (λ (o : Option Content). network_name (sections o)) tables_have.0
       ∙ ap (λ (o : Option Nit). unwrap_or (option_map (λ (nit : Nit). nit.name) o) (Text [])) nit_is
 
+  network_further : network_descriptors (sections (V.content (nit_key mux))) ≡ []
+  network_further =
+      ap (λ (o : Option Content). network_descriptors (sections o)) tables_have.0
+      ∙ ap (λ (o : Option Nit). unwrap_or (option_map (λ (nit : Nit). nit.descriptors) o) []) nit_is
+
   streams_are : streams_in (sections (V.content (nit_key mux))) ≡ (nit_of mux).streams
   streams_are =
       ap (λ (o : Option Content). streams_in (sections o)) tables_have.0
@@ -369,6 +377,9 @@ module _ (nit_back : NitReadsBack) (sdt_back : SdtReadsBack) (mux : Mux) (guide 
       own : (a b : ℕ) → (a == a && b == b) ≡ true
       own a b = grind (arith, nat_tests)
 
+  stream_further : descriptors_in mux.stream mux.original (streams_in (sections (V.content (nit_key mux)))) ≡ []
+  stream_further = ap (descriptors_in mux.stream mux.original) streams_are ∙ none_further mux mux.stream mux.original
+
   services_are_shown : map (screen_service V.content (programs_of V) (sdt_key mux)) (services_of V) ≡ services_shown mux guide
   services_are_shown =
       ap (λ (es : List PatEntry). map (screen_service V.content es (sdt_key mux)) (services_of V)) programs_are
@@ -376,31 +387,26 @@ module _ (nit_back : NitReadsBack) (sdt_back : SdtReadsBack) (mux : Mux) (guide 
       ∙ services_are mux ids guide moment V.content (pat_of mux) mux.services services_have
       (pids_found mux.services mux.services sound.sound.services (pids_said mux.services sound.sound.ascend))
 
-  abbrev screen_with : List Offset → Shown → Option Cable → List ScreenService → List ScreenOther → Screen
-  screen_with offsets name cable services others = record {
+  abbrev screen_with : List Offset → Shown → List RawDesc → Option Cable → List RawDesc → List ScreenService → List ScreenOther → Screen
+  screen_with offsets name network cable stream services others = record {
     clock = record { 0 = clock };
     offsets = offsets;
     network = mux.network;
     network_name = name;
+    network_descriptors = network;
     stream = mux.stream;
     original = mux.original;
     cable = cable;
+    stream_descriptors = stream;
     services = services;
     others = others;
   }
 
   screen_is : screen V (pat_key mux) (nit_key mux) (sdt_key mux) clock ≡ screen_of mux guide clock
   screen_is =
-      let c = sections (V.content (nit_key mux)) in
-      let services = map (screen_service V.content (programs_of V) (sdt_key mux)) (services_of V) in
       let others = λ (es : List NitStream) (ks : List Key). other_streams V.content es mux.stream mux.original ks in
-      ap (λ (os : List Offset). screen_with os (network_name c) (cable_in mux.stream mux.original (streams_in c)) services (others (streams_in c) V.others)) has.offsets_are
-      ∙ ap (λ (x : Shown). screen_with mux.offsets x (cable_in mux.stream mux.original (streams_in c)) services (others (streams_in c) V.others)) name_is
-      ∙ ap (λ (x : Option Cable). screen_with mux.offsets (Text mux.network_name) x services (others (streams_in c) V.others)) cable_is
-      ∙ ap (λ (l : List ScreenService). screen_with mux.offsets (Text mux.network_name) mux.cable l (others (streams_in c) V.others)) services_are_shown
-      ∙ ap (λ (ks : List Key). screen_with mux.offsets (Text mux.network_name) mux.cable (services_shown mux guide) (others (streams_in c) ks)) has.others_are
-      ∙ ap (λ (es : List NitStream). screen_with mux.offsets (Text mux.network_name) mux.cable (services_shown mux guide) (others es (map other_sdt_key mux.others))) streams_are
-      ∙ ap (screen_with mux.offsets (Text mux.network_name) mux.cable (services_shown mux guide)) (others_are sdt_back mux sound guide within V.content others_have)
+      (λ i. screen_with (has.offsets_are i) (name_is i) (network_further i) (cable_is i) (stream_further i) (services_are_shown i) (others (streams_are i) (has.others_are i)))
+      ∙ ap (screen_with mux.offsets (Text mux.network_name) [] mux.cable [] (services_shown mux guide)) (others_are sdt_back mux sound guide within V.content others_have)
 
   pub shown : heard_of V ≡ Whole (screen_of mux guide clock)
   shown =

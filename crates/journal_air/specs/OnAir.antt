@@ -37,6 +37,11 @@ pub record IsPlayerOf (mux : Mux) (player : Sending) : Type 0 where
   pub form : player.form ≡ mux_form mux
   pub rate : player.rate ≡ mux.rate
 
+-- the cycles of two players have one form and one bit rate
+pub record AreAlike (one other : Sending) : Type 0 where
+  pub form : other.form ≡ one.form
+  pub rate : other.rate ≡ one.rate
+
 -- After earlier cycles the player of the desk's multiplex has sent these, those of the desk's journal, and is at its end.
 pub record HasSentAll (earlier : List Aired) (desk : DeskState) (player : Sending) (xs : List Aired) : Type 0 where
   pub at_end : AtEnd (earlier ++ xs) player

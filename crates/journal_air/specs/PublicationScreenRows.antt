@@ -23,7 +23,7 @@ abbrev event : ℕ → ℕ → Event
 event id start = record { id = id; start = record { 0 = start }; seconds = 1800; language = codes "eng"; name = codes "News"; short = []; extended = []; rating = None; genres = [] }
 
 abbrev shown : ℕ → ℕ → ScreenEvent
-shown id start = record { id = id; start = record { 0 = start }; seconds = 1800; language = codes "eng"; name = Text (codes "News"); short = Text []; extended = Text []; rating = None; genres = [] }
+shown id start = record { id = id; start = record { 0 = start }; seconds = 1800; language = codes "eng"; name = Text (codes "News"); short = Text []; extended = Text []; rating = None; genres = []; descriptors = [] }
 
 -- on the second day at noon: an event of the day before is not shown, one at midnight is, so is the one that is on; of those behind it the
 -- last starts 64 days from that midnight, and is not
@@ -43,8 +43,10 @@ screen_services : (screen_of mux guide 129605).services ≡ record {
   kind = 1;
   provider = Text (codes "Acme");
   name = Text (codes "Acme News");
+  descriptors = [];
   pmt_pid = Some 256;
   pcr_pid = Some 257;
+  program_descriptors = [];
   components = [];
   now = Some (shown 3 129000);
   next = Some (shown 4 130800);
@@ -104,16 +106,18 @@ others_are : (screen_of wide both 129605).others ≡ record {
   stream = 3;
   original = 4;
   cable = None;
+  descriptors = [];
   services = record {
     service = 90;
     kind = 25;
     provider = Text (codes "Far");
     name = Text (codes "Far Films");
+    descriptors = [];
     now = None;
     next = Some (shown 8 133200);
     events = shown 7 127800 ∷ shown 8 133200 ∷ [];
   } ∷ [];
-} ∷ record { stream = 5; original = 4; cable = None; services = [] } ∷ []
+} ∷ record { stream = 5; original = 4; cable = None; descriptors = []; services = [] } ∷ []
 others_are = refl
 
 own_is : (screen_of wide both 129605).services ≡ (screen_of mux guide 129605).services

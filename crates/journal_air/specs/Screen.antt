@@ -1,4 +1,4 @@
--- What a receiver shows of a publication.
+-- What a receiver shows of a publication. A publication leaves no further descriptors: each of their lists is empty.
 use Rattle.std.specs.Prelude.{ℕ, ◌+◌, ◌*◌, Bool, ◌&&◌, nat_le, nat_lt, List, [], ◌∷◌, map, filter, Option, Some, None}
 use Rattle.guide_model.specs.declared.shown.Shown.TheVariants.{Text}
 use Rattle.guide_model.specs.declared.event.Event.{Event}
@@ -15,6 +15,7 @@ use Rattle.mux_model.specs.declared.mux.Other.{Other}
 use Rattle.mux_model.specs.declared.mux.RemoteService.{RemoteService}
 use Rattle.guide_limits.specs.Events.{start_of, midnight}
 use Rattle.table_bodies.specs.Eit.{shown_event}
+use Rattle.table_bodies.specs.Pmt.{shown_component}
 use Rattle.publication.specs.Present.{present_event, following_event}
 use Rattle.publication.specs.Parts.{part_of}
 
@@ -50,9 +51,11 @@ service_shown moment service guide = record {
   kind = service.kind;
   provider = Text guide.provider;
   name = Text guide.name;
+  descriptors = [];
   pmt_pid = Some service.pmt_pid;
   pcr_pid = Some service.pcr_pid;
-  components = service.components;
+  program_descriptors = [];
+  components = map shown_component service.components;
   now = now_shown moment guide;
   next = next_shown moment guide;
   events = events_shown moment guide;
@@ -75,6 +78,7 @@ remote_shown moment service guide = record {
   kind = service.kind;
   provider = Text guide.provider;
   name = Text guide.name;
+  descriptors = [];
   now = now_shown moment guide;
   next = next_shown moment guide;
   events = events_shown moment guide;
@@ -90,6 +94,7 @@ other_shown guide other = record {
   stream = other.stream;
   original = other.original;
   cable = other.cable;
+  descriptors = [];
   services = map (part_shown guide) other.services;
 }
 
@@ -106,9 +111,11 @@ screen_of mux guide clock = record {
   offsets = mux.offsets;
   network = mux.network;
   network_name = Text mux.network_name;
+  network_descriptors = [];
   stream = mux.stream;
   original = mux.original;
   cable = mux.cable;
+  stream_descriptors = [];
   services = services_shown mux guide;
   others = others_shown mux guide;
 }

@@ -2,16 +2,18 @@
 ghost use Rattle.std.specs.Prelude.{◌≡◌, ◌≤◌, ◌<◌, ◌*◌, [], List, Err, IfOk, OnOk};
 ghost use Rattle.air_model.specs.Air.{Aired};
 ghost use Rattle.cycle_player.specs.Sending.{AtEnd};
+ghost use Rattle.journal_model.specs.declared.step.Entry.{Entry as AnEntry};
 ghost use Rattle.mux_model.specs.Sound.{IsSound};
+ghost use Rattle.desk_core.specs.Lean.{IsLean, StandsFor, stood_for};
 ghost use Rattle.guide_limits.specs.Limits.{IsGuideWithin};
 ghost use Rattle.publication.specs.Tables.{HasServicesOf};
 ghost use Rattle.journal_air.specs.declared.send.SendStop.TheVariants.{Memory};
 ghost use Rattle.cycle_player.specs.Tally.{no_cycles};
-ghost use Rattle.journal_air.specs.OnAir.{SentCycle, IsPlayerOf, airing_by, airing_on, HasAirCause};
+ghost use Rattle.journal_air.specs.OnAir.{AreAlike, HasAirCause, IsPlayerOf, SentCycle, airing_by, airing_on};
 ghost use Rattle.journal_air.specs.Tallied.{CountedCycle};
 
 use cycle_player::CyclePlayer;
-use desk_core::{Airing, Desk};
+use desk_core::{Airing, LeanDesk};
 use mux_model::Mux;
 use publication::build;
 use si_causes::Sink;
@@ -84,21 +86,26 @@ pub fn send_cycle<A: Sink>(
     }
 }
 
-/// As `send_cycle`, of the publication that is on air at the desk, at the moment of the last swap.
+/// As `send_cycle`, of the publication that is on air at a desk, at the moment of the last swap.
 pub fn send_on_air<A: Sink>(
     alloc: Global,
-    desk: &Desk,
+    desk: &LeanDesk,
     player: &mut CyclePlayer,
     air: &mut A,
 ) -> Result<(), SendStop>
+    requires lean { IsLean desk.now }
     requires at_end { player.old.left ≡ [] }
-    ensures sent { (xs : List Aired) → AtEnd xs player.old → SentCycle xs (airing_on desk.now player.old.form) player.new (A.written air.old) (A.written air.new) result }
+    ensures sent { (journal : List AnEntry) (xs : List Aired) → StandsFor journal desk.now
+        → AtEnd xs player.old → SentCycle xs (airing_on (stood_for journal desk.now) player.old.form)
+        player.new (A.written air.old) (A.written air.new) result }
+    ensures counted { (journal : List AnEntry) → StandsFor journal desk.now
+        → CountedCycle (airing_on (stood_for journal desk.now) player.old.form)
+        player.old player.new result }
     ensures ended { OnOk result (player.new.left ≡ []) }
-    ensures form { player.new.form ≡ player.old.form }
-    ensures rate { player.new.rate ≡ player.old.rate }
-    ensures counted { CountedCycle (airing_on desk.now player.old.form) player.old player.new result }
+    ensures alike { AreAlike player.old player.new }
     ensures cause { HasAirCause (A.faults air.old) (A.faults air.new) result }
-    ensures memory { result ≡ Err SendStop.Memory → (air.new ≡ air.old) × (player.new ≡ player.old) }
+    ensures memory { result ≡ Err SendStop.Memory
+        → (air.new ≡ air.old) × (player.new ≡ player.old) }
     ensures later { A.faults air.old ≤ A.faults air.new }
     ensures same { A.same air.old air.new }
 {

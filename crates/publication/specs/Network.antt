@@ -1,5 +1,5 @@
 -- The network information table of a multiplex (EN 300 468, 5.2.1).
-use Rattle.std.specs.Prelude.{List, ◌∷◌, map}
+use Rattle.std.specs.Prelude.{List, [], ◌∷◌, map}
 use Rattle.guide_model.specs.declared.shown.Shown.TheVariants.{Text}
 use Rattle.mux_model.specs.declared.mux.MuxService.{MuxService}
 use Rattle.mux_model.specs.declared.mux.RemoteService.{RemoteService}
@@ -34,6 +34,7 @@ stream_of mux = record {
   original = mux.original;
   cable = mux.cable;
   services = own_kinds mux;
+  descriptors = [];
 }
 
 -- another stream, by the same
@@ -43,11 +44,12 @@ other_stream other = record {
   original = other.original;
   cable = other.cable;
   services = remote_kinds other;
+  descriptors = [];
 }
 
 -- the name of the network, this stream, and then the others
 abbrev pub nit_of : Mux → Nit
-nit_of mux = record { name = Text mux.network_name; streams = stream_of mux ∷ map other_stream mux.others }
+nit_of mux = record { name = Text mux.network_name; descriptors = []; streams = stream_of mux ∷ map other_stream mux.others }
 
 -- what names the NIT of the actual network: PID 0x0010, table_id 0x40 and network_id
 abbrev pub nit_key : Mux → Key

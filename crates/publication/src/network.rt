@@ -6,7 +6,7 @@ ghost use Rattle.publication.specs.Network.{kind_of, remote_kind, remote_kinds, 
 use crate::programs::NIT_PID;
 use crate::sections::single_table;
 use descriptors::{ServiceKind, ServiceKinds};
-use guide_model::Shown;
+use guide_model::{RawDescs, Shown};
 use mux_model::{Mux, MuxService, Other};
 use section_codec::{Key, SubTable};
 use std::alloc::{AllocError, Global};
@@ -52,6 +52,7 @@ fn stream(alloc: Global, mux: &Mux) -> Result<NitStream, AllocError>
         original: mux.original,
         cable: mux.cable,
         services: kinds(alloc, mux.services.as_slice())?,
+        descriptors: RawDescs::new(alloc),
     })
 }
 
@@ -64,6 +65,7 @@ fn other_stream(alloc: Global, other: &Other) -> Result<NitStream, AllocError>
         original: other.original,
         cable: other.cable,
         services: remote_kinds(alloc, other)?,
+        descriptors: RawDescs::new(alloc),
     })
 }
 
@@ -78,6 +80,7 @@ fn network(alloc: Global, mux: &Mux) -> Result<Nit, AllocError>
     }
     Ok(Nit {
         name: Shown::Text(mux.network_name.copy()?),
+        descriptors: RawDescs::new(alloc),
         streams,
     })
 }

@@ -6,7 +6,7 @@ use Rattle.std.specs.List.{flat_map, AllByRecursion}
 use Rattle.std.proofs.lemmas.Bool.{cond-true}
 use Rattle.std.proofs.lemmas.List.{append-nil, take_at, drop_at, get_or_at}
 use Rattle.si_base.specs.Fields.{two}
-use Rattle.descriptors.specs.declared.descriptors.RawDesc.{RawDesc}
+use Rattle.guide_model.specs.declared.descriptor.RawDesc.{RawDesc}
 use Rattle.descriptors.specs.Descriptors.{descriptor_bytes, AreDescriptors}
 use Rattle.table_bodies.specs.Entries.{TableEntry, entry_bytes, FitsEntry, desc_of, descriptors_in, EntryParts, loop_length, entry_length, split_in, Reads, value_in, with_more, entries_in}
 use Rattle.table_bodies.proofs.Steps.{next_desc, come_from, and_more, next_entry, one_passed}

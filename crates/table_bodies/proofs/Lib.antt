@@ -1,3 +1,4 @@
+pub mod FirstOnes
 pub mod Steps
 pub mod EntryWritten
 pub mod Whole

@@ -1,20 +1,21 @@
 -- Written programs read back.
-use Rattle.std.proofs.Common.{◌≡◌, ◌∙◌, ℕ, suc, ◌+◌, ◌*◌, ◌/◌, ◌%◌, ◌<◌, List, [], ◌∷◌, length, Option, Some, None, IfSome, refl, sym, ap, ap₂, arith}
-use Rattle.std.specs.Prelude.{◌==◌, option_and_then}
+use Rattle.std.proofs.Common.{◌≡◌, ◌∙◌, ℕ, suc, ◌+◌, ◌*◌, ◌/◌, ◌%◌, ◌<◌, List, [], ◌∷◌, length, map, Option, Some, None, IfSome, if◌then◌else◌, refl, sym, ap, arith}
+use Rattle.std.specs.Prelude.{◌==◌, Bool, true, is_some, option_and_then}
 use Rattle.std.specs.Option.{option_map, option_or}
 use Rattle.std.specs.List.{flat_map}
-use Rattle.std.proofs.lemmas.List.{map-id}
-use Rattle.si_lists.proofs.Lists.{all_map}
+use Rattle.si_lists.proofs.Lists.{all_map, three_of}
 use Rattle.si_lists.proofs.Outcomes.{mapped}
 use Rattle.si_base.specs.Fields.{two}
 use Rattle.guide_model.specs.declared.stream.Component.{Component}
+use Rattle.guide_model.specs.declared.screen.ScreenComponent.{ScreenComponent}
+use Rattle.guide_model.specs.declared.descriptor.RawDesc.{RawDesc}
 use Rattle.descriptors.specs.Languages.{languages_body}
 use Rattle.descriptors.proofs.ServiceEntries.{languages-read_back, length-languages_body}
 use Rattle.table_bodies.specs.Entries.{FitsEntry, EntryParts, made, value_in, entries_in}
 use Rattle.table_bodies.proofs.EntryWritten.{one_back, parts_of, split_back, entries_back}
 use Rattle.table_bodies.specs.declared.pat.PatEntry.{PatEntry}
 use Rattle.table_bodies.specs.Pat.{program_of, pat_in, pat_body, is_pat_body, PatReadsBack, WrittenPatsAreRead}
-use Rattle.table_bodies.specs.Pmt.{language_descriptors, component_entry, component_bytes, program_entry, first_language, component_in, pcr_pid_in, pmt_with, FitsComponent, PmtReadsBack}
+use Rattle.table_bodies.specs.Pmt.{language_descriptors, component_entry, component_bytes, program_entry, first_language, component_in, program_in, pmt_with, is_one_language, shown_component, FitsComponent, PmtReadsBack}
 
 pub pat-reads_back : PatReadsBack
 pat-reads_back [] fit = refl
@@ -51,29 +52,38 @@ written_pats (e ∷ entries) = sym (mapped _ (pat_in (pat_body entries))) ∙ wr
 pid_back : (pid : ℕ) → pid < 8192 → (256 * ((57344 + pid) / 256 % 256) + (57344 + pid) % 256) % 8192 ≡ pid
 pid_back pid lt = omega arith
 
-same_component : (s p q : ℕ) (l m : Option (List ℕ)) → p ≡ q → l ≡ m
-    → (let a : Component = record { stream_type = s; pid = p; language = l } in let b : Component = record { stream_type = s; pid = q; language = m } in a ≡ b)
-same_component s p q l m e f =
-    ap (λ (n : ℕ). let c : Component = record { stream_type = s; pid = n; language = l } in c) e
-    ∙ ap (λ (x : Option (List ℕ)). let c : Component = record { stream_type = s; pid = q; language = x } in c) f
+same_component : (s p q : ℕ) (l m : Option (List ℕ)) (ds es : List RawDesc) → p ≡ q → l ≡ m → ds ≡ es
+    → (let a : ScreenComponent = record { stream_type = s; pid = p; language = l; descriptors = ds } in
+    let b : ScreenComponent = record { stream_type = s; pid = q; language = m; descriptors = es } in a ≡ b)
+same_component s p q l m ds es e f g = λ i. record { stream_type = s; pid = e i; language = f i; descriptors = g i }
+
+abbrev language_desc : List ℕ → RawDesc
+language_desc l = record { tag = 0x0A; body = languages_body (l ∷ []) }
+
+-- a language shows its descriptor whole
+one_language : (l : List ℕ) → length l ≡ 3 → is_one_language (languages_body (l ∷ [])) ≡ true
+one_language l three = let t = three_of l three in ap (λ (code : List ℕ). is_one_language (languages_body (code ∷ []))) t.3
 
 abbrev parts_with : ℕ → ℕ → Option (List ℕ) → EntryParts
 parts_with s p l = record { fields = s ∷ two (0xE000 + p); descriptors = language_descriptors l }
 
 component_back : (s p : ℕ) (l : Option (List ℕ)) → p < 8192 → IfSome l (λ language. length language ≡ 3)
-    → value_in component_in (parts_with s p l) ≡ Some (record { stream_type = s; pid = p; language = l })
-component_back s p None lt three = ap (λ x. Some x) (same_component s _ p None None (pid_back p lt) refl)
+    → value_in component_in (parts_with s p l) ≡ Some (record { stream_type = s; pid = p; language = l; descriptors = [] })
+component_back s p None lt three = ap (λ x. Some x) (same_component s _ p None None [] [] (pid_back p lt) refl refl)
 component_back s p (Some l) lt three =
-    ap (option_and_then (component_in (s ∷ two (0xE000 + p)))) (one_back (record { tag = 0x0A; body = languages_body (l ∷ []) }))
-    ∙ ap (λ x. Some x) (same_component s _ p _ (Some l) (pid_back p lt)
-    (ap (λ read. first_language (option_or read None)) (languages-read_back (l ∷ []) (three, tt))))
+    let read = languages-read_back (l ∷ []) (three, tt) in
+    let left : List RawDesc = language_desc l ∷ [] in
+    let whole = is_one_language (languages_body (l ∷ [])) in
+    let none = ap (λ o. if is_some o then (if whole then [] else left) else left) read ∙ ap (λ (b : Bool). if b then [] else left) (one_language l three) in
+    ap (option_and_then (component_in (s ∷ two (0xE000 + p)))) (one_back (language_desc l))
+    ∙ ap (λ x. Some x) (same_component s _ p _ (Some l) _ [] (pid_back p lt) (ap (λ o. first_language (option_or o None)) read) none)
 
 descriptors_few : (l : Option (List ℕ)) → IfSome l (λ language. length language ≡ 3) → length (language_descriptors l) < 4096
 descriptors_few None three = omega arith
 descriptors_few (Some l) three = omega (arith, length-languages_body (l ∷ []) (three, tt))
 
 abbrev IsBack : Component → Type 0
-IsBack c = FitsEntry 3 (component_entry c) × (value_in component_in (parts_of (component_entry c)) ≡ Some c)
+IsBack c = FitsEntry 3 (component_entry c) × (value_in component_in (parts_of (component_entry c)) ≡ Some (shown_component c))
 
 each_back : (c : Component) → FitsComponent c → IsBack c
 each_back c fits = (
@@ -86,7 +96,7 @@ pmt-reads_back p fits =
     let loop = flat_map component_bytes p.components in
     let program = program_entry p.pcr_pid in
     let each = all_map FitsComponent IsBack each_back p.components fits.components in
-    ap (option_and_then (λ (parts : EntryParts × List ℕ). made pmt_with (value_in pcr_pid_in parts.0) (entries_in 3 component_in parts.1)))
+    ap (option_and_then (λ (parts : EntryParts × List ℕ). made pmt_with (value_in program_in parts.0) (entries_in 3 component_in parts.1)))
     (split_back 2 program loop (record { fields = refl; bits = omega arith; descriptors = omega arith }))
-    ∙ ap (option_map (pmt_with _)) (entries_back 3 component_in component_entry (λ c. c) p.components each)
-    ∙ ap₂ (λ (pid : ℕ) (components : List Component). Some (pmt_with pid components)) (pid_back p.pcr_pid fits.pcr_pid) (map-id p.components)
+    ∙ ap (option_map (pmt_with _)) (entries_back 3 component_in component_entry shown_component p.components each)
+    ∙ ap (λ (pid : ℕ). Some (pmt_with (pid, []) (map shown_component p.components))) (pid_back p.pcr_pid fits.pcr_pid)

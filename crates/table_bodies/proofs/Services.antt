@@ -1,5 +1,5 @@
 -- Written services read back.
-use Rattle.std.proofs.Common.{◌≡◌, ◌∙◌, ℕ, ◌+◌, ◌*◌, ◌/◌, ◌%◌, ◌≤◌, Bool, true, false, List, [], ◌∷◌, length, drop, Option, Some, None, refl, sym, ap, ap₂, arith, le-leb, length-append}
+use Rattle.std.proofs.Common.{◌≡◌, ◌∙◌, ℕ, ◌+◌, ◌*◌, ◌/◌, ◌%◌, ◌≤◌, Bool, true, false, List, [], ◌∷◌, length, drop, Option, Some, None, if◌then◌else◌, refl, sym, ap, ap₂, arith, le-leb, length-append}
 use Rattle.std.specs.Prelude.{◌==◌, nat_le, is_some, option_map, option_and_then}
 use Rattle.std.specs.Option.{option_or, unwrap_or}
 use Rattle.std.specs.List.{flat_map}
@@ -12,7 +12,7 @@ use Rattle.si_lists.proofs.Outcomes.{mapped}
 use Rattle.si_base.specs.Fields.{two_at}
 use Rattle.guide_model.specs.declared.shown.Shown.TheVariants.{Text}
 use Rattle.guide_model.specs.Decoding.{shown_bytes}
-use Rattle.descriptors.specs.declared.descriptors.RawDesc.{RawDesc}
+use Rattle.guide_model.specs.declared.descriptor.RawDesc.{RawDesc}
 use Rattle.descriptors.specs.declared.service.ServiceText.{ServiceText}
 use Rattle.descriptors.specs.Service.{service_body, service_descriptor, ServiceReadsBack}
 use Rattle.table_bodies.specs.Entries.{FitsEntry, value_in, entries_in}
@@ -48,10 +48,11 @@ present_back true false = refl
 present_back false true = refl
 present_back false false = refl
 
-same_service : (n m : ℕ) (a b c d : Bool) (t : ServiceText) → n ≡ m → a ≡ b → c ≡ d
-    → (let x : SdtService = record { service = n; schedule = a; present = c; kind = t.kind; provider = t.provider; name = t.name } in
-    let y : SdtService = record { service = m; schedule = b; present = d; kind = t.kind; provider = t.provider; name = t.name } in x ≡ y)
-same_service n m a b c d t e f g = λ i. record { service = e i; schedule = f i; present = g i; kind = t.kind; provider = t.provider; name = t.name }
+same_service : (n m : ℕ) (a b c d : Bool) (t : ServiceText) (ds es : List RawDesc) → n ≡ m → a ≡ b → c ≡ d → ds ≡ es
+    → (let x : SdtService = record { service = n; schedule = a; present = c; kind = t.kind; provider = t.provider; name = t.name; descriptors = ds } in
+    let y : SdtService = record { service = m; schedule = b; present = d; kind = t.kind; provider = t.provider; name = t.name; descriptors = es } in x ≡ y)
+same_service n m a b c d t ds es e f g h =
+    λ i. record { service = e i; schedule = f i; present = g i; kind = t.kind; provider = t.provider; name = t.name; descriptors = h i }
 
 abbrev no_text : ServiceText
 no_text = record { kind = 0; provider = Text []; name = Text [] }
@@ -73,9 +74,10 @@ each_back : ServiceReadsBack → (s : SdtService) → HasServiceWidths s → IsB
 each_back back s has = (
   service_fits s has.fits,
   read_by s
-      ∙ ap (λ read. Some (service_with (service_entry s).fields (unwrap_or (option_or read None) no_text))) (back (text_of s) has.shown)
-      ∙ ap (λ x. Some x) (same_service _ s.service _ s.schedule _ s.present (text_of s) (word_back s.service has.service)
-      (schedule_back s.schedule s.present) (present_back s.schedule s.present)),
+      ∙ ap (λ read. Some (service_with (service_entry s).fields (unwrap_or (option_or read None) no_text) (if is_some read then [] else text_desc s ∷ [])))
+      (back (text_of s) has.shown)
+      ∙ ap (λ x. Some x) (same_service _ s.service _ s.schedule _ s.present (text_of s) [] s.descriptors (word_back s.service has.service)
+      (schedule_back s.schedule s.present) (present_back s.schedule s.present) (sym has.no_further)),
 )
 
 abbrev IsRead : SdtService → Type 0

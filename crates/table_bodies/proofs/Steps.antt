@@ -6,7 +6,7 @@ use Rattle.std.proofs.lemmas.Bool.{leb-true, le-leb}
 use Rattle.std.proofs.lemmas.List.{length-drop, length-take-le, get_or-drop, take-append-drop, take_rest}
 use Rattle.si_lists.proofs.Lists.{behind, behind-next}
 use Rattle.si_lists.proofs.Outcomes.{mapped, some_same}
-use Rattle.descriptors.specs.declared.descriptors.RawDesc.{RawDesc}
+use Rattle.guide_model.specs.declared.descriptor.RawDesc.{RawDesc}
 use Rattle.descriptors.specs.Descriptors.{AreDescriptors}
 use Rattle.table_bodies.specs.Entries.{desc_of, descriptors_within, descriptors_in, EntryParts, entry_length, parts_at, split_in, Reads, value_in, made, with_more, entries_within, entries_in}
 

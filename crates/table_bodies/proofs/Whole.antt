@@ -8,7 +8,7 @@ use Rattle.std.proofs.lemmas.List.{length-drop, length-take-le, take-append-drop
 use Rattle.si_lists.proofs.Lists.{all_front, all_behind}
 use Rattle.si_lists.proofs.Outcomes.{some_same}
 use Rattle.si_base.specs.Fields.{two, two_at}
-use Rattle.descriptors.specs.declared.descriptors.RawDesc.{RawDesc}
+use Rattle.guide_model.specs.declared.descriptor.RawDesc.{RawDesc}
 use Rattle.table_bodies.specs.Entries.{TableEntry, entry_bytes, FitsEntry, descriptors_in, EntryParts, loop_length, entry_length, parts_at, split_in, Reads, value_in, with_more, entries_within, entries_in}
 use Rattle.table_bodies.specs.Laws.{IsReadAs, AreReadAs, AreEntries, AreBytes, EntriesAreRead}
 use Rattle.table_bodies.proofs.Steps.{come_from, and_more, next_entry}

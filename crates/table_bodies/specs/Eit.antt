@@ -76,7 +76,7 @@ is_eit_body body = is_some (eit_in body)
 abbrev pub EntryHasItsSize : Type 0
 EntryHasItsSize = (status : ℕ) (event : Event) → length (written_bytes status event) ≡ entry_size event
 
--- what a receiver shows of an event: all its texts as text
+-- what a receiver shows of an event: all its texts as text, and no further descriptor
 abbrev pub shown_event : Event → ScreenEvent
 shown_event e = record {
   id = e.id;
@@ -88,6 +88,7 @@ shown_event e = record {
   extended = Text e.extended;
   rating = e.rating;
   genres = e.genres;
+  descriptors = [];
 }
 
 -- what each value of the type Event has: an id of 16 bits, codes of three letters, and texts that may be kept

@@ -2,7 +2,7 @@
 use Rattle.std.specs.Prelude.{◌≡◌, ℕ, zero, suc, ◌+◌, ◌*◌, ◌%◌, ◌<◌, List, [], ◌∷◌, ◌++◌, length, take, drop, nat_le, if◌then◌else◌}
 use Rattle.std.specs.Prelude.{Option, Some, None, option_map, option_and_then}
 use Rattle.si_base.specs.Fields.{two, two_at}
-use Rattle.descriptors.specs.declared.descriptors.RawDesc.{RawDesc}
+use Rattle.guide_model.specs.declared.descriptor.RawDesc.{RawDesc}
 
 -- ---- written
 

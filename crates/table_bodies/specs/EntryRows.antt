@@ -1,6 +1,6 @@
 -- Worked loops of entries, read as their fields.
 use Rattle.std.specs.Prelude.{◌≡◌, ℕ, List, [], ◌∷◌, Option, Some, None, refl}
-use Rattle.descriptors.specs.declared.descriptors.RawDesc.{RawDesc}
+use Rattle.guide_model.specs.declared.descriptor.RawDesc.{RawDesc}
 use Rattle.table_bodies.specs.Entries.{entries_in, split_in, descriptors_in}
 
 abbrev fields_in : List ℕ → List RawDesc → Option (List ℕ)

@@ -7,7 +7,7 @@ use Rattle.si_time.specs.Moments.{moment_bcd, duration_bcd}
 use Rattle.si_time.specs.Readings.{moment_from_bcd, duration_from_bcd}
 use Rattle.guide_model.specs.declared.event.Event.{Event}
 use Rattle.guide_model.specs.declared.screen.ScreenEvent.{ScreenEvent}
-use Rattle.descriptors.specs.declared.descriptors.RawDesc.{RawDesc}
+use Rattle.guide_model.specs.declared.descriptor.RawDesc.{RawDesc}
 use Rattle.table_bodies.specs.declared.eit.EitHead.{EitHead}
 use Rattle.table_bodies.specs.ShownEvent.{short_of, genres_of, rating_of, pieces_in, joined, event_of}
 use Rattle.table_bodies.specs.Eit.{eit_body, written_bytes, shown_event, eit_in}
@@ -64,6 +64,7 @@ bare = record {
   extended = Text [];
   rating = None;
   genres = [];
+  descriptors = [];
 }
 
 news_shown : event_of 7 4257234000 1800 (news_desc ∷ []) ≡ shown_event news

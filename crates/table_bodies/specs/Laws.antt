@@ -1,7 +1,7 @@
 -- That bytes are read as values exactly where they are entries, one after the other.
 use Rattle.std.specs.Prelude.{◌≡◌, ◌↔◌, ℕ, ◌<◌, List, [], ◌∷◌, Some}
 use Rattle.std.specs.List.{flat_map, AllByRecursion}
-use Rattle.descriptors.specs.declared.descriptors.RawDesc.{RawDesc}
+use Rattle.guide_model.specs.declared.descriptor.RawDesc.{RawDesc}
 use Rattle.descriptors.specs.Descriptors.{AreDescriptors}
 use Rattle.table_bodies.specs.Entries.{TableEntry, entry_bytes, FitsEntry, Reads, entries_in}
 

@@ -3,18 +3,18 @@ use Rattle.std.specs.Prelude.{◌≡◌, [], ◌∷◌, true, false, Some, None,
 use Rattle.std.specs.Str.{chars}
 use Rattle.guide_model.specs.declared.shown.Shown.TheVariants.{Text}
 use Rattle.guide_model.specs.declared.stream.Cable.{Cable}
-use Rattle.descriptors.specs.declared.descriptors.RawDesc.{RawDesc}
+use Rattle.guide_model.specs.declared.descriptor.RawDesc.{RawDesc}
 use Rattle.table_bodies.specs.declared.nit.NitStream.{NitStream}
 use Rattle.table_bodies.specs.declared.sdt.SdtService.{SdtService}
-use Rattle.table_bodies.specs.Nit.{nit_body, name_of, stream_of, is_nit_body}
+use Rattle.table_bodies.specs.Nit.{nit_body, name_of, further_of_network, stream_with, is_nit_body}
 use Rattle.table_bodies.specs.Sdt.{sdt_body, service_of, is_sdt_body}
 
 -- ---- the network Demo, with stream 1 of network 1, which has service 101 of type 1
 
 abbrev stream : NitStream
-stream = record { stream = 1; original = 1; cable = None; services = record { service = 101; kind = 1 } ∷ [] }
+stream = record { stream = 1; original = 1; cable = None; services = record { service = 101; kind = 1 } ∷ []; descriptors = [] }
 
-row_nit : nit_body (record { name = Text (codes "Demo"); streams = stream ∷ [] })
+row_nit : nit_body (record { name = Text (codes "Demo"); descriptors = []; streams = stream ∷ [] })
     ≡ 0xF0 ∷ 0x06 ∷ 0x40 ∷ 0x04 ∷ 0x44 ∷ 0x65 ∷ 0x6D ∷ 0x6F ∷ 0xF0 ∷ 0x0B ∷ 0x00 ∷ 0x01 ∷ 0x00 ∷ 0x01 ∷ 0xF0 ∷ 0x05 ∷ 0x41 ∷ 0x03 ∷ 0x00 ∷ 0x65 ∷ 0x01 ∷ []
 row_nit = refl
 
@@ -22,7 +22,7 @@ row_nit = refl
 abbrev cable : Cable
 cable = record { frequency = 3460000; modulation = 3; symbol_rate = 69000; fec_outer = 2; fec_inner = 15 }
 
-row_cable : nit_body (record { name = Text []; streams = record { stream = 2; original = 1; cable = Some cable; services = [] } ∷ [] })
+row_cable : nit_body (record { name = Text []; descriptors = []; streams = record { stream = 2; original = 1; cable = Some cable; services = []; descriptors = [] } ∷ [] })
     ≡ 0xF0 ∷ 0x02 ∷ 0x40 ∷ 0x00 ∷ 0xF0 ∷ 0x15 ∷ 0x00 ∷ 0x02 ∷ 0x00 ∷ 0x01 ∷ 0xF0 ∷ 0x0F ∷ 0x44 ∷ 0x0B ∷ 0x03 ∷ 0x46 ∷ 0x00 ∷ 0x00 ∷ 0xFF ∷ 0xF2 ∷ 0x03 ∷ 0x00 ∷ 0x69 ∷ 0x00 ∷ 0x0F ∷ 0x41 ∷ 0x00 ∷ []
 row_cable = refl
 
@@ -36,20 +36,27 @@ list = record { tag = 0x41; body = 0x00 ∷ 0x65 ∷ 0x01 ∷ [] }
 abbrev empty_list : RawDesc
 empty_list = record { tag = 0x41; body = [] }
 
-stream_read : stream_of (0x00 ∷ 0x01 ∷ 0x00 ∷ 0x01 ∷ []) (cut_list ∷ list ∷ empty_list ∷ []) ≡ stream
+stream_read : stream_with 1 1 (cut_list ∷ list ∷ empty_list ∷ []) ≡ record stream { descriptors = cut_list ∷ empty_list ∷ [] }
 stream_read = refl
 
-list_hidden : stream_of (0x00 ∷ 0x01 ∷ 0x00 ∷ 0x02 ∷ []) (empty_list ∷ list ∷ []) ≡ record { stream = 1; original = 2; cable = None; services = [] }
+list_hidden : stream_with 1 2 (empty_list ∷ list ∷ []) ≡ record { stream = 1; original = 2; cable = None; services = []; descriptors = list ∷ [] }
 list_hidden = refl
 
 -- without a network_name the name is empty
 no_name : name_of (list ∷ []) ≡ Text []
 no_name = refl
 
+-- a second network_name is a further descriptor, and so is a descriptor of any other tag
+abbrev named : RawDesc
+named = record { tag = 0x40; body = [] }
+
+name_shown : further_of_network (list ∷ named ∷ named ∷ []) ≡ list ∷ named ∷ []
+name_shown = refl
+
 -- ---- service 101 of network 1, News of Acme
 
 abbrev news : SdtService
-news = record { service = 101; schedule = true; present = true; kind = 1; provider = Text (codes "Acme"); name = Text (codes "News") }
+news = record { service = 101; schedule = true; present = true; kind = 1; provider = Text (codes "Acme"); name = Text (codes "News"); descriptors = [] }
 
 row_sdt : sdt_body (record { original = 1; services = news ∷ [] })
     ≡ 0x00 ∷ 0x01 ∷ 0xFF ∷ 0x00 ∷ 0x65 ∷ 0xFF ∷ 0x80 ∷ 0x0D ∷ 0x48 ∷ 0x0B ∷ 0x01 ∷ 0x04 ∷ 0x41 ∷ 0x63 ∷ 0x6D ∷ 0x65 ∷ 0x04 ∷ 0x4E ∷ 0x65 ∷ 0x77 ∷ 0x73 ∷ []
@@ -59,7 +66,7 @@ row_no_services : sdt_body (record { original = 1; services = [] }) ≡ 0x00 ∷
 row_no_services = refl
 
 -- the two flags are told apart
-row_schedule : sdt_body (record { original = 1; services = record { service = 2; schedule = true; present = false; kind = 1; provider = Text []; name = Text [] } ∷ [] })
+row_schedule : sdt_body (record { original = 1; services = record { service = 2; schedule = true; present = false; kind = 1; provider = Text []; name = Text []; descriptors = [] } ∷ [] })
     ≡ 0x00 ∷ 0x01 ∷ 0xFF ∷ 0x00 ∷ 0x02 ∷ 0xFE ∷ 0x80 ∷ 0x05 ∷ 0x48 ∷ 0x03 ∷ 0x01 ∷ 0x00 ∷ 0x00 ∷ []
 row_schedule = refl
 
@@ -70,11 +77,11 @@ cut_text = record { tag = 0x48; body = 0x01 ∷ 0x00 ∷ [] }
 abbrev text : RawDesc
 text = record { tag = 0x48; body = 0x01 ∷ 0x04 ∷ 0x41 ∷ 0x63 ∷ 0x6D ∷ 0x65 ∷ 0x04 ∷ 0x4E ∷ 0x65 ∷ 0x77 ∷ 0x73 ∷ [] }
 
-service_read : service_of (0x00 ∷ 0x65 ∷ 0x03 ∷ []) (cut_text ∷ text ∷ []) ≡ news
+service_read : service_of (0x00 ∷ 0x65 ∷ 0x03 ∷ []) (cut_text ∷ text ∷ []) ≡ record news { descriptors = cut_text ∷ [] }
 unfolding chars
 service_read = refl
 
-service_bare : service_of (0x00 ∷ 0x65 ∷ 0xFD ∷ []) (cut_text ∷ []) ≡ record { service = 101; schedule = false; present = true; kind = 0; provider = Text []; name = Text [] }
+service_bare : service_of (0x00 ∷ 0x65 ∷ 0xFD ∷ []) (cut_text ∷ []) ≡ record { service = 101; schedule = false; present = true; kind = 0; provider = Text []; name = Text []; descriptors = cut_text ∷ [] }
 service_bare = refl
 
 -- ---- bytes that are a body, or none

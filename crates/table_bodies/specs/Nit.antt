@@ -8,13 +8,13 @@ use Rattle.guide_model.specs.Decoding.{shown_bytes, IsAsDecoded}
 use Rattle.guide_model.specs.declared.shown.Shown.{Shown}
 use Rattle.guide_model.specs.declared.shown.Shown.TheVariants.{Text}
 use Rattle.guide_model.specs.declared.stream.Cable.{Cable}
-use Rattle.descriptors.specs.declared.descriptors.RawDesc.{RawDesc}
+use Rattle.guide_model.specs.declared.descriptor.RawDesc.{RawDesc}
 use Rattle.descriptors.specs.declared.service_list.ServiceKind.{ServiceKind}
 use Rattle.descriptors.specs.CableDelivery.{cable_delivery_system, cable_in, FitsCable}
 use Rattle.descriptors.specs.NetworkName.{network_name, network_name_in}
 use Rattle.descriptors.specs.ServiceList.{service_list, service_list_in}
 use Rattle.table_bodies.specs.Entries.{TableEntry, entry_bytes, Reads, made, split_in, value_in, entries_in}
-use Rattle.table_bodies.specs.First.{first_in}
+use Rattle.table_bodies.specs.First.{first_in, without_first, always}
 use Rattle.table_bodies.specs.declared.nit.NitStream.{NitStream}
 use Rattle.table_bodies.specs.declared.nit.Nit.{Nit}
 
@@ -25,7 +25,8 @@ abbrev pub cable_descriptors : Option Cable → List ℕ
 cable_descriptors None = []
 cable_descriptors (Some cable) = cable_delivery_system cable
 
--- transport_stream_id 16, original_network_id 16, reserved 4, all 1; its cable where it has one, and its services
+-- transport_stream_id 16, original_network_id 16, reserved 4, all 1; its cable where it has one, and its services; further descriptors
+-- are not written
 abbrev pub stream_entry : NitStream → TableEntry
 stream_entry s = record { fields = two s.stream ++ two s.original; bits = 15; descriptors = cable_descriptors s.cable ++ service_list s.services }
 
@@ -56,8 +57,15 @@ pub record FitsStream (s : NitStream) : Type 0 where
 -- ---- read
 
 -- the first network_name; without one the name is empty
+abbrev pub name_read : List ℕ → Option Shown
+name_read body = Some (network_name_in body)
+
 abbrev pub name_of : List RawDesc → Shown
-name_of descs = unwrap_or (first_in 0x40 (λ body. Some (network_name_in body)) descs) (Text [])
+name_of descs = unwrap_or (first_in 0x40 name_read descs) (Text [])
+
+-- the further descriptors of a network
+abbrev pub further_of_network : List RawDesc → List RawDesc
+further_of_network descs = without_first 0x40 name_read always descs
 
 -- the first cable_delivery_system that fits
 abbrev pub cable_of : List RawDesc → Option Cable
@@ -67,16 +75,26 @@ cable_of descs = first_in 0x44 cable_in descs
 abbrev pub services_of : List RawDesc → List ServiceKind
 services_of descs = unwrap_or (first_in 0x41 service_list_in descs) []
 
--- the name that the descriptors of a network say
-abbrev pub name_in : Reads Shown
-name_in fields descs = Some (name_of descs)
+-- the further descriptors of a stream
+abbrev pub further_of_stream : List RawDesc → List RawDesc
+further_of_stream descs = without_first 0x41 service_list_in always (without_first 0x44 cable_in always descs)
+
+-- the descriptors of a network
+abbrev pub network_in : Reads (List RawDesc)
+network_in fields descs = Some descs
 
 -- what an entry says of a stream
-abbrev pub stream_of : List ℕ → List RawDesc → NitStream
-stream_of fields descs = record { stream = two_at 0 fields; original = two_at 2 fields; cable = cable_of descs; services = services_of descs }
+abbrev pub stream_with : ℕ → ℕ → List RawDesc → NitStream
+stream_with stream original descs = record {
+  stream = stream;
+  original = original;
+  cable = cable_of descs;
+  services = services_of descs;
+  descriptors = further_of_stream descs;
+}
 
 abbrev pub stream_in : Reads NitStream
-stream_in fields descs = Some (stream_of fields descs)
+stream_in fields descs = Some (stream_with (two_at 0 fields) (two_at 2 fields) descs)
 
 -- the bytes after their length of 12 bits, whatever the four bits before it; none where they are not as many
 abbrev pub is_loop : List ℕ → Bool
@@ -85,13 +103,13 @@ is_loop bytes = nat_le 2 (length bytes) && length (drop 2 bytes) == two_at 0 byt
 abbrev pub loop_in : List ℕ → Option (List ℕ)
 loop_in bytes = if is_loop bytes then Some (drop 2 bytes) else None
 
-abbrev pub nit_with : Shown → List NitStream → Nit
-nit_with name streams = record { name = name; streams = streams }
+abbrev pub nit_with : List RawDesc → List NitStream → Nit
+nit_with descs streams = record { name = name_of descs; descriptors = further_of_network descs; streams = streams }
 
 -- An entry of the network, and a loop of entries of streams, whatever their reserved bits; none where the body is no such entries.
 abbrev pub nit_in : List ℕ → Option Nit
 nit_in body =
-    option_and_then (λ parts. made nit_with (value_in name_in parts.0) (option_and_then (entries_in 4 stream_in) (loop_in parts.1)))
+    option_and_then (λ parts. made nit_with (value_in network_in parts.0) (option_and_then (entries_in 4 stream_in) (loop_in parts.1)))
     (split_in 0 body)
 
 -- whether bytes are such a body
@@ -100,15 +118,17 @@ is_nit_body body = is_some (nit_in body)
 
 -- ---- laws
 
--- each field has its width
+-- each field has its width, and there is no further descriptor
 pub record HasStreamWidths (s : NitStream) : Type 0 where
   pub stream : s.stream < 65536
   pub original : s.original < 65536
   pub services : AllByRecursion (λ k. k.service < 65536) s.services
   pub fits : FitsStream s
+  pub no_further : s.descriptors ≡ []
 
--- fields that fit, and a name that is shown as its bytes are
+-- fields that fit, a name that is shown as its bytes are, and no further descriptor
 pub record FitsNit (n : Nit) : Type 0 where
+  pub no_further : n.descriptors ≡ []
   pub name : length (shown_bytes n.name) ≤ 255
   pub shown : IsAsDecoded n.name
   pub streams : AllByRecursion HasStreamWidths n.streams

@@ -1,14 +1,16 @@
 -- The body of a section of a program map table, both ways (ISO/IEC 13818-1, 2.4.4.8).
-use Rattle.std.specs.Prelude.{◌≡◌, ℕ, ◌+◌, ◌%◌, ◌<◌, List, [], ◌∷◌, ◌++◌, length, slice_index, Bool}
+use Rattle.std.specs.Prelude.{◌≡◌, ℕ, ◌+◌, ◌%◌, ◌<◌, ◌==◌, ◌&&◌, List, [], ◌∷◌, ◌++◌, length, map, slice_index, Bool}
 use Rattle.std.specs.Prelude.{Option, Some, None, IfSome, is_some, option_and_then}
 use Rattle.std.specs.List.{flat_map, AllByRecursion}
 use Rattle.si_base.specs.Fields.{two, two_at}
 use Rattle.guide_model.specs.declared.stream.Component.{Component}
-use Rattle.descriptors.specs.declared.descriptors.RawDesc.{RawDesc}
+use Rattle.guide_model.specs.declared.screen.ScreenComponent.{ScreenComponent}
+use Rattle.guide_model.specs.declared.descriptor.RawDesc.{RawDesc}
 use Rattle.descriptors.specs.Languages.{iso_639_language, languages_in}
 use Rattle.table_bodies.specs.Entries.{TableEntry, entry_bytes, Reads, made, split_in, value_in, entries_in}
-use Rattle.table_bodies.specs.First.{first_in}
+use Rattle.table_bodies.specs.First.{first_in, without_first}
 use Rattle.table_bodies.specs.declared.pmt.Pmt.{Pmt}
+use Rattle.table_bodies.specs.declared.pmt.HeardPmt.{HeardPmt}
 
 -- ---- written
 
@@ -46,23 +48,36 @@ first_language None = None
 abbrev pub language_of : List RawDesc → Option (List ℕ)
 language_of descs = first_language (first_in 0x0A languages_in descs)
 
--- what an entry says of a component
-abbrev pub component_of : List ℕ → List RawDesc → Component
-component_of fields descs = record { stream_type = slice_index fields 0; pid = two_at 1 fields % 8192; language = language_of descs }
+-- one entry, whose audio_type is 0: a language shows it whole
+abbrev pub is_one_language : List ℕ → Bool
+is_one_language body = length body == 4 && slice_index body 3 == 0
 
-abbrev pub component_in : Reads Component
+-- the further descriptors of a component
+abbrev pub further_of_component : List RawDesc → List RawDesc
+further_of_component descs = without_first 0x0A languages_in is_one_language descs
+
+-- what an entry says of a component
+abbrev pub component_of : List ℕ → List RawDesc → ScreenComponent
+component_of fields descs = record {
+  stream_type = slice_index fields 0;
+  pid = two_at 1 fields % 8192;
+  language = language_of descs;
+  descriptors = further_of_component descs;
+}
+
+abbrev pub component_in : Reads ScreenComponent
 component_in fields descs = Some (component_of fields descs)
 
--- PCR_PID of the entry of the program, whose descriptors are passed over
-abbrev pub pcr_pid_in : Reads ℕ
-pcr_pid_in fields descs = Some (two_at 0 fields % 8192)
+-- PCR_PID of the entry of the program, and its descriptors
+abbrev pub program_in : Reads (ℕ × List RawDesc)
+program_in fields descs = Some (two_at 0 fields % 8192, descs)
 
-abbrev pub pmt_with : ℕ → List Component → Pmt
-pmt_with pcr_pid components = record { pcr_pid = pcr_pid; components = components }
+abbrev pub pmt_with : ℕ × List RawDesc → List ScreenComponent → HeardPmt
+pmt_with program components = record { pcr_pid = program.0; descriptors = program.1; components = components }
 
 -- An entry of the program and entries of components, whatever their reserved bits; none where the body is no such entries.
-abbrev pub pmt_in : List ℕ → Option Pmt
-pmt_in body = option_and_then (λ parts. made pmt_with (value_in pcr_pid_in parts.0) (entries_in 3 component_in parts.1)) (split_in 2 body)
+abbrev pub pmt_in : List ℕ → Option HeardPmt
+pmt_in body = option_and_then (λ parts. made pmt_with (value_in program_in parts.0) (entries_in 3 component_in parts.1)) (split_in 2 body)
 
 -- whether bytes are such a body
 abbrev pub is_pmt_body : List ℕ → Bool
@@ -79,6 +94,13 @@ pub record FitsPmt (p : Pmt) : Type 0 where
   pub pcr_pid : p.pcr_pid < 8192
   pub components : AllByRecursion FitsComponent p.components
 
--- Reading a written body gives its value back.
+-- what a receiver shows of a component, and of a program: there are no further descriptors
+abbrev pub shown_component : Component → ScreenComponent
+shown_component c = record { stream_type = c.stream_type; pid = c.pid; language = c.language; descriptors = [] }
+
+abbrev pub shown_pmt : Pmt → HeardPmt
+shown_pmt p = record { pcr_pid = p.pcr_pid; descriptors = []; components = map shown_component p.components }
+
+-- Reading a written body gives what is shown of its value.
 abbrev pub PmtReadsBack : Type 0
-PmtReadsBack = (p : Pmt) → FitsPmt p → pmt_in (pmt_body p) ≡ Some p
+PmtReadsBack = (p : Pmt) → FitsPmt p → pmt_in (pmt_body p) ≡ Some (shown_pmt p)

@@ -1,7 +1,7 @@
 -- Worked bodies of program tables.
 use Rattle.std.specs.Prelude.{◌≡◌, [], ◌∷◌, Some, None, true, false, refl, codes}
 use Rattle.std.specs.Str.{chars}
-use Rattle.descriptors.specs.declared.descriptors.RawDesc.{RawDesc}
+use Rattle.guide_model.specs.declared.descriptor.RawDesc.{RawDesc}
 use Rattle.table_bodies.specs.Pat.{pat_body, pat_in, is_pat_body}
 use Rattle.table_bodies.specs.Pmt.{pmt_body, component_of, pmt_in, is_pmt_body}
 
@@ -39,12 +39,30 @@ no_language = record { tag = 0x0A; body = [] }
 abbrev english : RawDesc
 english = record { tag = 0x0A; body = 0x65 ∷ 0x6E ∷ 0x67 ∷ 0x00 ∷ [] }
 
-component_read : component_of (0x03 ∷ 0x02 ∷ 0x02 ∷ []) (cut_language ∷ english ∷ no_language ∷ []) ≡ record { stream_type = 3; pid = 514; language = Some (codes "eng") }
+component_read : component_of (0x03 ∷ 0x02 ∷ 0x02 ∷ []) (cut_language ∷ english ∷ no_language ∷ [])
+    ≡ record { stream_type = 3; pid = 514; language = Some (codes "eng"); descriptors = cut_language ∷ no_language ∷ [] }
 unfolding chars
 component_read = refl
 
-component_hidden : component_of (0x03 ∷ 0xE2 ∷ 0x02 ∷ []) (no_language ∷ english ∷ []) ≡ record { stream_type = 3; pid = 514; language = None }
+component_hidden : component_of (0x03 ∷ 0xE2 ∷ 0x02 ∷ []) (no_language ∷ english ∷ []) ≡ record { stream_type = 3; pid = 514; language = None; descriptors = no_language ∷ english ∷ [] }
 component_hidden = refl
+
+-- a language shows neither an audio_type (3: visual impaired commentary) nor a second language
+abbrev described : RawDesc
+described = record { tag = 0x0A; body = 0x65 ∷ 0x6E ∷ 0x67 ∷ 0x03 ∷ [] }
+
+abbrev two_languages : RawDesc
+two_languages = record { tag = 0x0A; body = 0x65 ∷ 0x6E ∷ 0x67 ∷ 0x00 ∷ 0x64 ∷ 0x65 ∷ 0x75 ∷ 0x00 ∷ [] }
+
+component_described : component_of (0x03 ∷ 0xE2 ∷ 0x02 ∷ []) (described ∷ [])
+    ≡ record { stream_type = 3; pid = 514; language = Some (codes "eng"); descriptors = described ∷ [] }
+unfolding chars
+component_described = refl
+
+component_of_two : component_of (0x03 ∷ 0xE2 ∷ 0x02 ∷ []) (two_languages ∷ english ∷ [])
+    ≡ record { stream_type = 3; pid = 514; language = Some (codes "eng"); descriptors = two_languages ∷ english ∷ [] }
+unfolding chars
+component_of_two = refl
 
 -- ---- bytes that are a body, or none
 
@@ -55,7 +73,7 @@ looked_cut_pat : is_pat_body (0x00 ∷ 0x65 ∷ 0xE1 ∷ []) ≡ false
 looked_cut_pat = refl
 
 looked_pmt : pmt_in (0xE1 ∷ 0x01 ∷ 0xF0 ∷ 0x00 ∷ 0x02 ∷ 0xE2 ∷ 0x01 ∷ 0xF0 ∷ 0x00 ∷ [])
-    ≡ Some (record { pcr_pid = 257; components = record { stream_type = 2; pid = 513; language = None } ∷ [] })
+    ≡ Some (record { pcr_pid = 257; descriptors = []; components = record { stream_type = 2; pid = 513; language = None; descriptors = [] } ∷ [] })
 looked_pmt = refl
 
 -- program_info_length runs past the end, and the last entry is cut

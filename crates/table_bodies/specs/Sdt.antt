@@ -6,11 +6,11 @@ use Rattle.std.specs.List.{flat_map, All, AllByRecursion}
 use Rattle.si_base.specs.Fields.{two, two_at}
 use Rattle.guide_model.specs.Decoding.{shown_bytes}
 use Rattle.guide_model.specs.declared.shown.Shown.TheVariants.{Text}
-use Rattle.descriptors.specs.declared.descriptors.RawDesc.{RawDesc}
+use Rattle.guide_model.specs.declared.descriptor.RawDesc.{RawDesc}
 use Rattle.descriptors.specs.declared.service.ServiceText.{ServiceText}
 use Rattle.descriptors.specs.Service.{service_descriptor, service_in, HasShownNames}
 use Rattle.table_bodies.specs.Entries.{TableEntry, entry_bytes, Reads, entries_in}
-use Rattle.table_bodies.specs.First.{first_in}
+use Rattle.table_bodies.specs.First.{first_in, without_first, always}
 use Rattle.table_bodies.specs.declared.sdt.SdtService.{SdtService}
 use Rattle.table_bodies.specs.declared.sdt.Sdt.{Sdt}
 
@@ -24,7 +24,7 @@ abbrev pub text_of : SdtService → ServiceText
 text_of s = record { kind = s.kind; provider = s.provider; name = s.name }
 
 -- service_id 16, reserved 6, all 1, EIT_schedule_flag 1, EIT_present_following_flag 1; running_status 3, which is 4, running,
--- and free_CA_mode 1, which is 0; its service_descriptor
+-- and free_CA_mode 1, which is 0; its service_descriptor; further descriptors are not written
 abbrev pub service_entry : SdtService → TableEntry
 service_entry s = record {
   fields = two s.service ++ (0xFC + 2 * flag_bit s.schedule + flag_bit s.present) ∷ [];
@@ -49,20 +49,25 @@ FitsService s = length (shown_bytes s.provider) + length (shown_bytes s.name) �
 abbrev pub text_in : List RawDesc → ServiceText
 text_in descs = unwrap_or (first_in 0x48 service_in descs) (record { kind = 0; provider = Text []; name = Text [] })
 
--- a service by its fields and its texts
-abbrev pub service_with : List ℕ → ServiceText → SdtService
-service_with fields text = record {
+-- the further descriptors of a service
+abbrev pub further_of_service : List RawDesc → List RawDesc
+further_of_service descs = without_first 0x48 service_in always descs
+
+-- a service by its fields, its texts and its further descriptors
+abbrev pub service_with : List ℕ → ServiceText → List RawDesc → SdtService
+service_with fields text further = record {
   service = two_at 0 fields;
   schedule = slice_index fields 2 / 2 % 2 == 1;
   present = slice_index fields 2 % 2 == 1;
   kind = text.kind;
   provider = text.provider;
   name = text.name;
+  descriptors = further;
 }
 
 -- what an entry says of a service
 abbrev pub service_of : List ℕ → List RawDesc → SdtService
-service_of fields descs = service_with fields (text_in descs)
+service_of fields descs = service_with fields (text_in descs) (further_of_service descs)
 
 abbrev pub sdt_service_in : Reads SdtService
 sdt_service_in fields descs = Some (service_of fields descs)
@@ -81,10 +86,11 @@ is_sdt_body body = is_some (sdt_in body)
 
 -- ---- laws
 
--- fields that fit, and texts that are shown as their bytes are
+-- fields that fit, texts that are shown as their bytes are, and no further descriptor
 pub record HasServiceWidths (s : SdtService) : Type 0 where
   pub service : s.service < 65536
   pub fits : FitsService s
+  pub no_further : s.descriptors ≡ []
   pub shown : HasShownNames (text_of s)
 
 pub record FitsSdt (sdt : Sdt) : Type 0 where

@@ -1,5 +1,5 @@
 -- What the descriptors of an event show.
-use Rattle.std.specs.Prelude.{ℕ, ◌==◌, List, [], ◌∷◌, ◌++◌, Option, Some, None, if◌then◌else◌, codes, bytes_eq}
+use Rattle.std.specs.Prelude.{ℕ, ◌==◌, ◌&&◌, Bool, false, not, List, [], ◌∷◌, ◌++◌, length, filter, slice_index, Option, Some, None, if◌then◌else◌, codes, bytes_eq}
 use Rattle.std.specs.List.{concat}
 use Rattle.guide_model.specs.Decoding.{decoded}
 use Rattle.guide_model.specs.declared.shown.Shown.{Shown}
@@ -7,8 +7,8 @@ use Rattle.guide_model.specs.declared.shown.Shown.TheVariants.{Text, Hex}
 use Rattle.guide_model.specs.declared.event.Genre.{Genre}
 use Rattle.guide_model.specs.declared.event.Rating.{Rating}
 use Rattle.guide_model.specs.declared.screen.ScreenEvent.{ScreenEvent}
-use Rattle.descriptors.specs.declared.descriptors.RawDesc.{RawDesc}
-use Rattle.table_bodies.specs.First.{first_in}
+use Rattle.guide_model.specs.declared.descriptor.RawDesc.{RawDesc}
+use Rattle.table_bodies.specs.First.{first_in, without_first, always}
 use Rattle.descriptors.specs.declared.short_event.ShortEvent.{ShortEvent}
 use Rattle.descriptors.specs.declared.extended_event.ExtendedPiece.{ExtendedPiece}
 use Rattle.descriptors.specs.ShortEvent.{short_event_in}
@@ -73,6 +73,36 @@ joined_as None pieces = Hex (concat pieces)
 abbrev pub joined : List (List ℕ) → Shown
 joined pieces = joined_as (texts_of pieces) pieces
 
+-- ---- the further descriptors
+
+-- one entry: a rating shows it whole
+abbrev pub is_one_rating : List ℕ → Bool
+is_one_rating body = length body == 4
+
+-- a piece in this language, which has no items: length_of_items, at byte 4, is 0
+abbrev pub is_in_language : List ℕ → Option ExtendedPiece → Bool
+is_in_language language None = false
+is_in_language language (Some p) = bytes_eq p.language language
+
+abbrev pub is_plain_piece : List ℕ → RawDesc → Bool
+is_plain_piece language d = d.tag == 0x4E && (slice_index d.body 4 == 0 && is_in_language language (extended_event_in d.body))
+
+-- the descriptors without those pieces, where their text is shown as text
+abbrev pub without_pieces : List ℕ → Shown → List RawDesc → List RawDesc
+without_pieces language (Text text) ds = filter (λ d. not (is_plain_piece language d)) ds
+without_pieces language (Hex bytes) ds = ds
+
+-- the descriptors without the first short_event, parental_rating and content
+abbrev pub without_firsts : List RawDesc → List RawDesc
+without_firsts ds =
+    without_first 0x54 content_in always (without_first 0x55 parental_rating_in is_one_rating (without_first 0x4D short_event_in always ds))
+
+abbrev pub extended_of : List RawDesc → Shown
+extended_of ds = joined (pieces_in (short_of ds).language ds)
+
+abbrev pub further_of_event : List RawDesc → List RawDesc
+further_of_event ds = without_pieces (short_of ds).language (extended_of ds) (without_firsts ds)
+
 -- ---- the event
 
 abbrev pub event_of : ℕ → ℕ → ℕ → List RawDesc → ScreenEvent
@@ -83,7 +113,8 @@ event_of id start seconds ds = record {
   language = (short_of ds).language;
   name = (short_of ds).name;
   short = (short_of ds).short;
-  extended = joined (pieces_in (short_of ds).language ds);
+  extended = extended_of ds;
   rating = rating_of ds;
   genres = genres_of ds;
+  descriptors = further_of_event ds;
 }

@@ -3,7 +3,8 @@ ghost use Rattle.std.specs.Prelude.{◌≡◌, ◌+◌, ◌<◌, length, slice_i
 ghost use Rattle.si_base.specs.Fields.{two_at};
 ghost use Rattle.table_bodies.specs.Entries.{EntryParts, descriptors_in, split_in};
 
-use descriptors::{RawDescs, read_descriptors};
+use descriptors::read_descriptors;
+use guide_model::RawDescs;
 use std::alloc::{AllocError, Global};
 use std::marker::Model;
 

@@ -23,10 +23,12 @@
 //! Not promised: how much memory a body of events takes.
 #![tactic(auto)]
 
+mod descriptor_kinds;
 mod eit;
 mod entry;
 mod entry_laws;
 mod event_laws;
+mod first;
 mod network_laws;
 mod nit;
 mod pat;
@@ -45,7 +47,7 @@ pub use event_laws::{events_are_typed, written_events_read_back};
 pub use network_laws::{bodies_have_their_sizes, written_networks_read_back};
 pub use nit::{Nit, NitStream, NitStreams, is_nit_body, read_nit, write_nit};
 pub use pat::{PatEntries, PatEntry, is_pat_body, read_pat, write_pat};
-pub use pmt::{Pmt, is_pmt_body, read_pmt, write_pmt};
+pub use pmt::{HeardPmt, Pmt, is_pmt_body, read_pmt, write_pmt};
 pub use program_laws::written_programs_read_back;
 pub use read::{EntryKind, are_entries, read_entries};
 pub use reading::{is_eit_body, read_eit};

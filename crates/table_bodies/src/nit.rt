@@ -6,39 +6,44 @@ ghost use Rattle.guide_model.specs.Decoding.{shown_bytes};
 ghost use Rattle.descriptors.specs.CableDelivery.{FitsCable};
 ghost use Rattle.descriptors.specs.NetworkName.{network_name};
 ghost use Rattle.table_bodies.specs.Entries.{entry_bytes};
-ghost use Rattle.table_bodies.specs.Nit.{FitsStream, bare_entry, cable_descriptors, cable_of, cable_size, loop_in, name_of, nit_body, nit_in, services_of, stream_bytes, stream_in, stream_size};
+ghost use Rattle.descriptors.specs.ServiceList.{service_list_in};
+ghost use Rattle.table_bodies.specs.First.{always, without_first};
+ghost use Rattle.table_bodies.specs.Nit.{FitsStream, bare_entry, cable_descriptors, cable_size, further_of_network, loop_in, name_of, nit_body, nit_in, services_of, stream_bytes, stream_in, stream_size, stream_with};
 
+use crate::descriptor_kinds::{CableDelivery, NetworkName, ServiceList};
+use crate::first::take_first;
 use crate::{EntryKind, RawEntry, are_entries, read_entries, split_entry};
 use descriptors::{
-    RawDesc, ServiceKinds, no_text, read_cable_delivery_system, read_network_name,
-    read_service_list, write_cable_delivery_system, write_network_name, write_service_list,
+    ServiceKinds, no_text, write_cable_delivery_system, write_network_name, write_service_list,
 };
-use guide_model::{Cable, Shown};
+use guide_model::{Cable, RawDesc, RawDescs, Shown};
 use si_base::{Bytes, Items};
 use std::alloc::{AllocError, Global};
 
-/// A transport stream of a network: transport_stream_id and original_network_id, how it is sent by cable where that is told, and its
-/// services.
+/// A transport stream of a network: transport_stream_id and original_network_id, how it is sent by cable where that is said, its
+/// services, and its further descriptors.
 #[derive(Drop)]
 pub struct NitStream {
     pub stream: u16,
     pub original: u16,
     pub cable: Option<Cable>,
     pub services: ServiceKinds,
+    pub descriptors: RawDescs,
 }
 
 /// Streams in the order in which they stand.
 pub type NitStreams = Items<NitStream>;
 
-/// What a network information table holds: the name of the network and its transport streams.
+/// What a network information table holds: the name of the network, its further descriptors and its transport streams.
 #[derive(Drop)]
 pub struct Nit {
     pub name: Shown,
+    pub descriptors: RawDescs,
     pub streams: NitStreams,
 }
 
 /// The body of a section of the network information table (EN 300 468, 5.2.1): a network_name_descriptor, and for each stream its
-/// cable_delivery_system_descriptor where it has one and its service_list_descriptor.
+/// cable_delivery_system_descriptor where it has one and its service_list_descriptor. Further descriptors are not written.
 ///
 /// It needs a name of at most 255 bytes, cables whose digits fit, at most 85 services a stream, and streams of less than 4,096 bytes
 /// together, so that each length fits its field.
@@ -118,6 +123,7 @@ fn put_cable(cable: &Option<Cable>, out: &mut Vec<u8>) -> Result<(), AllocError>
 ///
 /// The name is that of the first network_name_descriptor; without one it is empty. A stream has the cable of its first
 /// cable_delivery_system_descriptor and the services of its first service_list_descriptor whose body fits; without a list it has none.
+/// All other descriptors are further ones.
 pub fn read_nit(alloc: Global, body: &[u8]) -> Result<Option<Nit>, AllocError>
     ensures { IfOk result (λ read. read ≡ nit_in body.now) }
 {
@@ -133,8 +139,13 @@ pub fn read_nit(alloc: Global, body: &[u8]) -> Result<Option<Nit>, AllocError>
     let Some(streams) = read_entries::<StreamEntries>(alloc, entries)? else {
         return Ok(None);
     };
-    let name = name_of(alloc, descs.as_slice())?;
-    Ok(Some(Nit { name, streams }))
+    let mut further = descs.into_vec();
+    let name = take_name(alloc, &mut further)?;
+    Ok(Some(Nit {
+        name,
+        descriptors: Items::of(further),
+        streams,
+    }))
 }
 
 /// Whether these bytes are the body of a section of the network information table, as `read_nit` reads it (EN 300 468, 5.2.1). It takes
@@ -180,15 +191,11 @@ impl EntryKind for StreamEntries {
     fn read(
         alloc: Global,
         entry: &RawEntry,
-        descs: &[RawDesc],
+        descs: RawDescs,
     ) -> Result<Option<NitStream>, AllocError> {
-        let services = services_of(alloc, descs)?;
-        Ok(Some(NitStream {
-            stream: entry.two(0),
-            original: entry.two(2),
-            cable: cable_of(descs)?,
-            services,
-        }))
+        let stream = entry.two(0);
+        let original = entry.two(2);
+        Ok(Some(stream_of(alloc, stream, original, descs)?))
     }
 
     fn is_read(_entry: &RawEntry) -> bool {
@@ -198,44 +205,45 @@ impl EntryKind for StreamEntries {
     ghost is_narrow = { lit< tt };
 }
 
-// The first name.
-fn name_of(alloc: Global, descs: &[RawDesc]) -> Result<Shown, AllocError>
-    ensures { IfOk result (λ name. name ≡ name_of descs.now) }
+// What descriptors say of a stream.
+fn stream_of(
+    alloc: Global,
+    stream: u16,
+    original: u16,
+    descs: RawDescs,
+) -> Result<NitStream, AllocError>
+    ensures { IfOk result (λ said. said ≡ stream_with stream original descs) }
 {
-    for desc in descs {
-        if desc.tag == 0x40 {
-            if let Some(name) = read_network_name(alloc, desc.body.as_slice())? {
-                return Ok(name);
-            }
-        }
-    }
-    no_text(alloc)
+    let mut further = descs.into_vec();
+    let cable = take_first::<CableDelivery>(alloc, &mut further)?;
+    let services = take_services(alloc, &mut further)?;
+    Ok(NitStream {
+        stream,
+        original,
+        cable,
+        services,
+        descriptors: Items::of(further),
+    })
 }
 
-// The first cable that fits.
-fn cable_of(descs: &[RawDesc]) -> Result<Option<Cable>, AllocError>
-    ensures { IfOk result (λ cable. cable ≡ cable_of descs.now) }
+// The first name; the other descriptors stay.
+fn take_name(alloc: Global, descs: &mut Vec<RawDesc>) -> Result<Shown, AllocError>
+    ensures name { IfOk result (λ name. name ≡ name_of descs.old.items) }
+    ensures further { OnOk result (descs.new.items ≡ further_of_network descs.old.items) }
 {
-    for desc in descs {
-        if desc.tag == 0x44 {
-            if let Some(cable) = read_cable_delivery_system(desc.body.as_slice())? {
-                return Ok(Some(cable));
-            }
-        }
+    match take_first::<NetworkName>(alloc, descs)? {
+        Some(name) => Ok(name),
+        None => no_text(alloc),
     }
-    Ok(None)
 }
 
-// The services of the first list that fits.
-fn services_of(alloc: Global, descs: &[RawDesc]) -> Result<ServiceKinds, AllocError>
-    ensures { IfOk result (λ services. services ≡ services_of descs.now) }
+// The services of the first list that fits; the other descriptors stay.
+fn take_services(alloc: Global, descs: &mut Vec<RawDesc>) -> Result<ServiceKinds, AllocError>
+    ensures services { IfOk result (λ services. services ≡ services_of descs.old.items) }
+    ensures further { OnOk result (descs.new.items ≡ without_first 0x41 service_list_in always descs.old.items) }
 {
-    for desc in descs {
-        if desc.tag == 0x41 {
-            if let Some(services) = read_service_list(alloc, desc.body.as_slice())? {
-                return Ok(services);
-            }
-        }
+    match take_first::<ServiceList>(alloc, descs)? {
+        Some(services) => Ok(services),
+        None => Ok(ServiceKinds::new(alloc)),
     }
-    Ok(ServiceKinds::new(alloc))
 }

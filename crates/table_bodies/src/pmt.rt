@@ -2,12 +2,13 @@
 ghost use Rattle.std.specs.Prelude.{◌≡◌, ◌<◌, ◌++◌, List, ℕ, Option, length, is_some, IfOk, OnOk};
 ghost use Rattle.std.specs.List.{All, flat_map};
 ghost use Rattle.std.proofs.Common.{lit<};
-ghost use Rattle.guide_model.specs.declared.stream.Component.{Component};
-ghost use Rattle.table_bodies.specs.Pmt.{HasPid, component_bytes, component_in, language_descriptors, language_of, pmt_body, pmt_in};
+ghost use Rattle.table_bodies.specs.Pmt.{HasPid, component_bytes, component_in, further_of_component, language_descriptors, language_of, pmt_body, pmt_in};
 
+use crate::descriptor_kinds::Language;
+use crate::first::take_first;
 use crate::{EntryKind, RawEntry, are_entries, read_entries, split_entry};
-use descriptors::{RawDesc, read_iso_639_language, write_iso_639_language};
-use guide_model::{Component, Components};
+use descriptors::write_iso_639_language;
+use guide_model::{Component, Components, RawDesc, RawDescs, ScreenComponent, ScreenComponents};
 use si_base::{Bytes, Items};
 use std::alloc::{AllocError, Global};
 
@@ -16,6 +17,15 @@ use std::alloc::{AllocError, Global};
 pub struct Pmt {
     pub pcr_pid: u16,
     pub components: Components,
+}
+
+/// What was heard of a program map table: the PID of the program's clock reference (13 bits), the descriptors of the program and its
+/// components.
+#[derive(Drop)]
+pub struct HeardPmt {
+    pub pcr_pid: u16,
+    pub descriptors: RawDescs,
+    pub components: ScreenComponents,
 }
 
 /// The body of a section of the program map table, without descriptors of the program (ISO/IEC 13818-1, 2.4.4.8). A component has an
@@ -60,24 +70,25 @@ fn put_component(component: &Component, out: &mut Vec<u8>) -> Result<(), AllocEr
 }
 
 /// What the body of a section of the program map table says, or `None` exactly where it ends within an entry, a length runs past the
-/// end, a descriptor runs past the end of its loop, or bytes are left over. Reserved bits may have any value, and descriptors of the
-/// program are passed over (ISO/IEC 13818-1, 2.4.4.8).
+/// end, a descriptor runs past the end of its loop, or bytes are left over. Reserved bits may have any value (ISO/IEC 13818-1, 2.4.4.8).
 ///
-/// The language of a component is the first of its first ISO_639_language_descriptor whose body fits.
-pub fn read_pmt(alloc: Global, body: &[u8]) -> Result<Option<Pmt>, AllocError>
+/// The language of a component is the first of its first ISO_639_language_descriptor whose body fits. That descriptor is no further
+/// one where it has one entry, with an audio_type of 0.
+pub fn read_pmt(alloc: Global, body: &[u8]) -> Result<Option<HeardPmt>, AllocError>
     ensures { IfOk result (λ read. read ≡ pmt_in body.now) }
 {
     let Some((program, behind)) = split_entry(2, body) else {
         return Ok(None);
     };
-    if !program.has_descriptors() {
+    let Some(descriptors) = program.descriptors(alloc)? else {
         return Ok(None);
-    }
+    };
     let Some(components) = read_entries::<ComponentEntries>(alloc, behind)? else {
         return Ok(None);
     };
-    Ok(Some(Pmt {
+    Ok(Some(HeardPmt {
         pcr_pid: program.two(0) % 8192,
+        descriptors,
         components,
     }))
 }
@@ -86,7 +97,7 @@ pub fn read_pmt(alloc: Global, body: &[u8]) -> Result<Option<Pmt>, AllocError>
 struct ComponentEntries;
 
 impl EntryKind for ComponentEntries {
-    type Value = Component;
+    type Value = ScreenComponent;
 
     const SIZE: usize = 3;
 
@@ -97,12 +108,15 @@ impl EntryKind for ComponentEntries {
     fn read(
         alloc: Global,
         entry: &RawEntry,
-        descs: &[RawDesc],
-    ) -> Result<Option<Component>, AllocError> {
-        Ok(Some(Component {
+        descs: RawDescs,
+    ) -> Result<Option<ScreenComponent>, AllocError> {
+        let mut further = descs.into_vec();
+        let language = take_language(alloc, &mut further)?;
+        Ok(Some(ScreenComponent {
             stream_type: entry.byte(0),
             pid: entry.two(1) % 8192,
-            language: language_of(alloc, descs)?,
+            language,
+            descriptors: Items::of(further),
         }))
     }
 
@@ -113,18 +127,15 @@ impl EntryKind for ComponentEntries {
     ghost is_narrow = { lit< tt };
 }
 
-// The first language of the first descriptor of languages that fits.
-fn language_of(alloc: Global, descs: &[RawDesc]) -> Result<Option<[u8; 3]>, AllocError>
-    ensures { IfOk result (λ language. language ≡ language_of descs.now) }
+// The first language of the first descriptor of languages that fits; the others stay.
+fn take_language(alloc: Global, descs: &mut Vec<RawDesc>) -> Result<Option<[u8; 3]>, AllocError>
+    ensures language { IfOk result (λ language. language ≡ language_of descs.old.items) }
+    ensures further { OnOk result (descs.new.items ≡ further_of_component descs.old.items) }
 {
-    for desc in descs {
-        if desc.tag == 0x0A {
-            if let Some(languages) = read_iso_639_language(alloc, desc.body.as_slice())? {
-                return Ok(languages.as_slice().first().copied());
-            }
-        }
+    match take_first::<Language>(alloc, descs)? {
+        Some(languages) => Ok(languages.as_slice().first().copied()),
+        None => Ok(None),
     }
-    Ok(None)
 }
 
 /// Whether these bytes are the body of a section of the program map table, as `read_pmt` reads it (ISO/IEC 13818-1, 2.4.4.8). It takes

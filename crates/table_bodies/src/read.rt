@@ -1,10 +1,10 @@
 // Loops of entries.
 ghost use Rattle.std.specs.Prelude.{◌≡◌, ◌<◌, List, Option, ℕ, length, is_some, IfOk};
-ghost use Rattle.descriptors.specs.declared.descriptors.RawDesc.{RawDesc};
+ghost use Rattle.guide_model.specs.declared.descriptor.RawDesc.{RawDesc};
 ghost use Rattle.table_bodies.specs.Entries.{entries_in, value_in};
 
 use crate::entry::{RawEntry, split_entry};
-use descriptors::RawDesc;
+use guide_model::RawDescs;
 use si_base::Items;
 use std::alloc::{AllocError, Global};
 
@@ -26,10 +26,10 @@ pub trait EntryKind {
     fn read(
         alloc: Global,
         entry: &RawEntry,
-        descs: &[RawDesc],
+        descs: RawDescs,
     ) -> Result<Option<Self::Value>, AllocError>
         requires { length entry.now.fields ≡ SIZE }
-        ensures { IfOk result (λ value. value ≡ value_of entry.now.fields descs.now) };
+        ensures { IfOk result (λ value. value ≡ value_of entry.now.fields descs) };
 
     /// Whether an entry is not refused, whatever its descriptors. It takes no memory.
     fn is_read(entry: &RawEntry) -> bool
@@ -56,7 +56,7 @@ pub fn read_entries<K: EntryKind>(
         let Some(descs) = entry.descriptors(alloc)? else {
             return Ok(None);
         };
-        let Some(value) = K::read(alloc, &entry, descs.as_slice())? else {
+        let Some(value) = K::read(alloc, &entry, descs)? else {
             return Ok(None);
         };
         values.push(value)?;

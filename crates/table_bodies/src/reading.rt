@@ -5,10 +5,10 @@ ghost use Rattle.table_bodies.specs.ShownEvent.{event_of};
 ghost use Rattle.table_bodies.specs.Eit.{duration_of, eit_in, event_in, time_of};
 
 use crate::eit::{Eit, EitHead};
-use crate::shown_event::{extended_of, genres_of, rating_of, short_of};
+use crate::shown_event::{extended_of, take_genres, take_rating, take_short, without_pieces};
 use crate::{EntryKind, RawEntry, are_entries, read_entries};
-use descriptors::RawDesc;
-use guide_model::ScreenEvent;
+use guide_model::{RawDescs, ScreenEvent};
+use si_base::Items;
 use si_time::{Moment, duration_from_bcd, from_bcd};
 use std::alloc::{AllocError, Global};
 
@@ -19,7 +19,8 @@ use std::alloc::{AllocError, Global};
 /// Language, name and short text are those of the first short_event; without one the language is `und` and both texts
 /// are empty. The extended text joins the extended_event pieces of that language in the order in which they stand; where
 /// one is not shown as text it is `Hex` of all their bytes. The genres are those of the first content, the rating is the
-/// first of the first parental_rating. Descriptors of other tags, and those whose body does not fit, are passed over.
+/// first of the first parental_rating. All other descriptors are further ones: of other tags, those whose body does not
+/// fit, a rating of several countries, and pieces that have items or another language, or whose text is no text.
 pub fn read_eit(alloc: Global, body: &[u8]) -> Result<Option<Eit>, AllocError>
     ensures { IfOk result (λ read. read ≡ eit_in body.now) }
 {
@@ -61,7 +62,7 @@ impl EntryKind for EventEntries {
     fn read(
         alloc: Global,
         entry: &RawEntry,
-        descs: &[RawDesc],
+        descs: RawDescs,
     ) -> Result<Option<ScreenEvent>, AllocError> {
         let Some(start) = from_bcd(time_of(entry)) else {
             return Ok(None);
@@ -108,14 +109,16 @@ fn event_of(
     id: u16,
     start: Moment,
     seconds: u32,
-    descs: &[RawDesc],
+    descs: RawDescs,
 ) -> Result<ScreenEvent, AllocError>
-    ensures { IfOk result (λ event. event ≡ event_of id start.0 seconds descs.now) }
+    ensures { IfOk result (λ event. event ≡ event_of id start.0 seconds descs) }
 {
-    let rating = rating_of(alloc, descs)?;
-    let genres = genres_of(alloc, descs)?;
-    let short = short_of(alloc, descs)?;
-    let extended = extended_of(alloc, &short.language, descs)?;
+    let mut further = descs.into_vec();
+    let short = take_short(alloc, &mut further)?;
+    let rating = take_rating(alloc, &mut further)?;
+    let genres = take_genres(alloc, &mut further)?;
+    let extended = extended_of(alloc, &short.language, &further)?;
+    without_pieces(&short.language, &extended, &mut further);
     Ok(ScreenEvent {
         id,
         start,
@@ -126,5 +129,6 @@ fn event_of(
         extended,
         rating,
         genres,
+        descriptors: Items::of(further),
     })
 }

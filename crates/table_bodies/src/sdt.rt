@@ -2,16 +2,18 @@
 ghost use Rattle.std.specs.Prelude.{◌≡◌, ◌++◌, length, is_some, IfOk, OnOk};
 ghost use Rattle.std.specs.List.{All, flat_map};
 ghost use Rattle.std.proofs.Common.{lit<};
-ghost use Rattle.table_bodies.specs.Sdt.{FitsService, flag_bit, sdt_body, sdt_in, service_bytes, sdt_service_in, text_in};
+ghost use Rattle.table_bodies.specs.Sdt.{FitsService, flag_bit, further_of_service, sdt_body, sdt_in, service_bytes, sdt_service_in, text_in};
 
+use crate::descriptor_kinds::Service;
+use crate::first::take_first;
 use crate::{EntryKind, RawEntry, are_entries, read_entries};
-use descriptors::{RawDesc, ServiceText, no_text, read_service, write_service_fields};
-use guide_model::Shown;
+use descriptors::{ServiceText, no_text, write_service_fields};
+use guide_model::{RawDesc, RawDescs, Shown};
 use si_base::{Bytes, Items};
 use std::alloc::{AllocError, Global};
 
 /// A service as it is described: service_id, whether event information of its schedule and of its present and following events is
-/// sent, service_type (`kind`), the provider of the service and its name (EN 300 468, 5.2.3 and 6.2.33).
+/// sent, service_type (`kind`), the provider of the service, its name, and its further descriptors (EN 300 468, 5.2.3 and 6.2.33).
 #[derive(Drop)]
 pub struct SdtService {
     pub service: u16,
@@ -20,6 +22,7 @@ pub struct SdtService {
     pub kind: u8,
     pub provider: Shown,
     pub name: Shown,
+    pub descriptors: RawDescs,
 }
 
 /// Services in the order in which they stand.
@@ -33,7 +36,7 @@ pub struct Sdt {
 }
 
 /// The body of a section of the service description table (EN 300 468, 5.2.3). Each service is running (running_status 4), is not
-/// scrambled (free_CA_mode 0), and has one service_descriptor.
+/// scrambled (free_CA_mode 0), and has one service_descriptor. Further descriptors are not written.
 ///
 /// It needs services whose texts have at most 252 bytes together, so that the length of the descriptor fits its field.
 pub fn write_sdt(alloc: Global, sdt: &Sdt) -> Result<Bytes, AllocError>
@@ -91,6 +94,7 @@ fn flag_bit(flag: bool) -> u8
 /// any value (EN 300 468, 5.2.3).
 ///
 /// Type, provider and name of a service are those of its first service_descriptor whose body fits; without one they are 0 and empty.
+/// All other descriptors are further ones.
 pub fn read_sdt(alloc: Global, body: &[u8]) -> Result<Option<Sdt>, AllocError>
     ensures { IfOk result (λ read. read ≡ sdt_in body.now) }
 {
@@ -129,10 +133,11 @@ impl EntryKind for ServiceEntries {
     fn read(
         alloc: Global,
         entry: &RawEntry,
-        descs: &[RawDesc],
+        descs: RawDescs,
     ) -> Result<Option<SdtService>, AllocError> {
         let flags = entry.byte(2);
-        let text = text_in(alloc, descs)?;
+        let mut further = descs.into_vec();
+        let text = take_text(alloc, &mut further)?;
         Ok(Some(SdtService {
             service: entry.two(0),
             schedule: flags / 2 % 2 == 1,
@@ -140,6 +145,7 @@ impl EntryKind for ServiceEntries {
             kind: text.kind,
             provider: text.provider,
             name: text.name,
+            descriptors: Items::of(further),
         }))
     }
 
@@ -150,16 +156,13 @@ impl EntryKind for ServiceEntries {
     ghost is_narrow = { lit< tt };
 }
 
-// The type and the texts of the first service_descriptor that fits.
-fn text_in(alloc: Global, descs: &[RawDesc]) -> Result<ServiceText, AllocError>
-    ensures { IfOk result (λ text. text ≡ text_in descs.now) }
+// The type and the texts of the first service_descriptor that fits; the other descriptors stay.
+fn take_text(alloc: Global, descs: &mut Vec<RawDesc>) -> Result<ServiceText, AllocError>
+    ensures text { IfOk result (λ text. text ≡ text_in descs.old.items) }
+    ensures further { OnOk result (descs.new.items ≡ further_of_service descs.old.items) }
 {
-    for desc in descs {
-        if desc.tag == 0x48 {
-            if let Some(text) = read_service(alloc, desc.body.as_slice())? {
-                return Ok(text);
-            }
-        }
+    if let Some(text) = take_first::<Service>(alloc, descs)? {
+        return Ok(text);
     }
     Ok(ServiceText {
         kind: 0,

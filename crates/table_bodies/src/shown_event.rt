@@ -1,30 +1,29 @@
 // What the descriptors of an event show.
-ghost use Rattle.std.specs.Prelude.{◌≡◌, [], bytes_eq, IfOk};
+ghost use Rattle.std.specs.Prelude.{◌≡◌, ◌==◌, ◌&&◌, [], bytes_eq, slice_index, IfOk, OnOk};
 ghost use Rattle.guide_model.specs.declared.shown.Shown.TheVariants.{Text, Hex};
 ghost use Rattle.std.specs.List.{concat};
 ghost use Rattle.descriptors.specs.ShortEvent.{short_event_in};
 ghost use Rattle.descriptors.specs.Content.{content_in};
 ghost use Rattle.descriptors.specs.ParentalRating.{parental_rating_in};
-ghost use Rattle.table_bodies.specs.ShownEvent.{short_of, genres_of, rating_of, pieces_in, joined};
+ghost use Rattle.descriptors.specs.ExtendedEvent.{extended_event_in};
+ghost use Rattle.table_bodies.specs.First.{always, without_first};
+ghost use Rattle.table_bodies.specs.ShownEvent.{short_of, genres_of, rating_of, pieces_in, joined, is_one_rating};
+ghost use Rattle.table_bodies.specs.ShownEvent.{is_in_language, is_plain_piece, without_pieces};
 
-use descriptors::{
-    RawDesc, ShortEvent, no_text, read_content, read_extended_event, read_parental_rating,
-    read_short_event,
-};
-use guide_model::{Genres, Rating, Shown, Txt, decode_text};
+use crate::descriptor_kinds::{Content, ParentalRating, ShortText};
+use crate::first::take_first;
+use descriptors::{ShortEvent, behind_length, no_text, read_extended_event, split_length};
+use guide_model::{Genres, Rating, RawDesc, Shown, Txt, decode_text};
 use si_base::{Bytes, Items};
 use std::alloc::{AllocError, Global};
 
-/// The first short_event; without one the language is und and both texts are empty.
-pub(crate) fn short_of(alloc: Global, descs: &[RawDesc]) -> Result<ShortEvent, AllocError>
-    ensures { IfOk result (λ event. event ≡ short_of descs.now) }
+/// The first short_event, which is taken out of the list; without one the language is und and both texts are empty.
+pub(crate) fn take_short(alloc: Global, descs: &mut Vec<RawDesc>) -> Result<ShortEvent, AllocError>
+    ensures event { IfOk result (λ event. event ≡ short_of descs.old.items) }
+    ensures rest { OnOk result (descs.new.items ≡ without_first 0x4D short_event_in always descs.old.items) }
 {
-    for desc in descs {
-        if desc.tag == 0x4D {
-            if let Some(event) = read_short_event(alloc, desc.body.as_slice())? {
-                return Ok(event);
-            }
-        }
+    if let Some(event) = take_first::<ShortText>(alloc, descs)? {
+        return Ok(event);
     }
     Ok(ShortEvent {
         language: *b"und",
@@ -33,32 +32,29 @@ pub(crate) fn short_of(alloc: Global, descs: &[RawDesc]) -> Result<ShortEvent, A
     })
 }
 
-/// The genres of the first content.
-pub(crate) fn genres_of(alloc: Global, descs: &[RawDesc]) -> Result<Genres, AllocError>
-    ensures { IfOk result (λ genres. genres ≡ genres_of descs.now) }
+/// The genres of the first content, which is taken out of the list.
+pub(crate) fn take_genres(alloc: Global, descs: &mut Vec<RawDesc>) -> Result<Genres, AllocError>
+    ensures genres { IfOk result (λ genres. genres ≡ genres_of descs.old.items) }
+    ensures rest { OnOk result (descs.new.items ≡ without_first 0x54 content_in always descs.old.items) }
 {
-    for desc in descs {
-        if desc.tag == 0x54 {
-            if let Some(genres) = read_content(alloc, desc.body.as_slice())? {
-                return Ok(genres);
-            }
-        }
+    match take_first::<Content>(alloc, descs)? {
+        Some(genres) => Ok(genres),
+        None => Ok(Genres::new(alloc)),
     }
-    Ok(Genres::new(alloc))
 }
 
-/// The first rating of the first parental_rating.
-pub(crate) fn rating_of(alloc: Global, descs: &[RawDesc]) -> Result<Option<Rating>, AllocError>
-    ensures { IfOk result (λ rating. rating ≡ rating_of descs.now) }
+/// The first rating of the first parental_rating, which is taken out of the list where it has no other.
+pub(crate) fn take_rating(
+    alloc: Global,
+    descs: &mut Vec<RawDesc>,
+) -> Result<Option<Rating>, AllocError>
+    ensures rating { IfOk result (λ rating. rating ≡ rating_of descs.old.items) }
+    ensures rest { OnOk result (descs.new.items ≡ without_first 0x55 parental_rating_in is_one_rating descs.old.items) }
 {
-    for desc in descs {
-        if desc.tag == 0x55 {
-            if let Some(ratings) = read_parental_rating(alloc, desc.body.as_slice())? {
-                return Ok(ratings.as_slice().first().copied());
-            }
-        }
+    match take_first::<ParentalRating>(alloc, descs)? {
+        Some(ratings) => Ok(ratings.as_slice().first().copied()),
+        None => Ok(None),
     }
-    Ok(None)
 }
 
 // Whether two codes of three letters are the same.
@@ -121,4 +117,44 @@ fn all_bytes(alloc: Global, pieces: &[Bytes]) -> Result<Shown, AllocError>
         bytes.extend_from_slice(piece.as_slice())?;
     }
     Ok(Shown::Hex(Items::of(bytes)))
+}
+
+// Whether a body is that of a piece in this language.
+fn is_in_language(language: &[u8; 3], body: &[u8]) -> bool
+    ensures { result ≡ is_in_language language.now (extended_event_in body.now) }
+{
+    let [_numbers, a, b, c, behind @ ..] = body else {
+        return false;
+    };
+    let Some((_items, behind)) = split_length(behind) else {
+        return false;
+    };
+    behind_length(behind).is_some() && same_code(&[*a, *b, *c], language)
+}
+
+// Whether a descriptor is a piece in this language without items.
+fn is_plain_piece(language: &[u8; 3], desc: &RawDesc) -> bool
+    ensures { result ≡ is_plain_piece language.now desc.now }
+{
+    let body = desc.body.as_slice();
+    desc.tag == 0x4E && has_no_items(body) && is_in_language(language, body)
+}
+
+// Whether length_of_items is 0, or missing, as in no piece.
+fn has_no_items(body: &[u8]) -> bool
+    ensures { result ≡ (slice_index body.now 4 == 0) }
+{
+    match body.get(4) {
+        Some(length) => *length == 0,
+        None => true,
+    }
+}
+
+/// Takes out of the list the pieces in this language without items, where their text is shown as text.
+pub(crate) fn without_pieces(language: &[u8; 3], extended: &Shown, descs: &mut Vec<RawDesc>)
+    ensures { descs.new.items ≡ without_pieces language.now extended.now descs.old.items }
+{
+    if let Shown::Text(_) = extended {
+        descs.retain(|desc| !is_plain_piece(language, desc));
+    }
 }

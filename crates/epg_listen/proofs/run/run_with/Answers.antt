@@ -19,5 +19,5 @@ returns g c =
           (faults c.args.report.now) (faults heard.new.report) (faults c.end_report.new.report) stands heard.result c.end_report.result
           (λ bytes tells. subst (λ (s : Bool). HasHeard words.resync s bytes (g.S.Source.left heard.new.input) stands (written c.args.report.now) (written heard.new.report) heard.result) same (heard.ensures.heard bytes tells))
           heard.ensures.end heard.ensures.read_cause heard.ensures.report_cause heard.ensures.later c.end_report.ensures.later
-          (subst (λ (s : Bool). EndsHeard words.partial s stands heard.result (told written faults heard.new.report c.end_report.new.report) c.end_report.result) same c.end_report.ensures.ends);
+          (subst (λ (s : Bool). EndsHeard (options_said words) s stands heard.result (told written faults heard.new.report c.end_report.new.report) c.end_report.result) same c.end_report.ensures.ends);
     }

@@ -6,7 +6,7 @@ use Rattle.guide_screen.specs.Reading.{streams_in}
 use Rattle.guide_screen.specs.Screen.{other_stream}
 use Rattle.guide_parts.specs.Parts.{heard_key, pat_heard, nit_heard, sdt_heard, home_by, home_of, stream_by}
 use Rattle.guide_parts.specs.Heads.{AreHeads}
-use Rattle.guide_parts.specs.PartScreen.{part_at, network_with, cable_of, is_foreign, moment_at}
+use Rattle.guide_parts.specs.PartScreen.{part_at, network_with, cable_of, stream_descriptors, is_foreign, moment_at}
 use Rattle.guide_parts.proofs.Clocks.{clock_back}
 use Rattle.guide_parts.proofs.heard.part_screen.Goals as goal
 
@@ -31,6 +31,7 @@ returns c P view keeps keys offsets others =
     let stream = c.stream_by.ensures ∙ ap₂ stream_by home pat in
     let original = c.network_of.ensures ∙ ap (option_map (λ (k : Key). k.network)) home in
     let cable = c.cable_of.ensures ∙ ap₂ cable_of home (c.deref-2.ensures.value ∙ streams) in
+    let further = c.in_ok-stream_descriptors.ensures ∙ ap₂ stream_descriptors home (c.deref-3.ensures.value ∙ streams) in
     let clock = clock_back c.args.latest.now.clock ∙ ap (option_map moment_at) (sym view.clock) in
     let kept = c.in_ok-copied.ensures ∙ sym offsets in
     λ i. record {
@@ -40,6 +41,7 @@ returns c P view keeps keys offsets others =
       stream = stream i;
       original = original i;
       cable = cable i;
+      stream_descriptors = further i;
       services = services i;
       others = beside i;
     }

@@ -4,4 +4,4 @@ use Rattle.guide_parts.proofs.service.put_part_services.Given as goal
 
 -- the lines of the services so far
 abbrev pub invariant-loop-service : goal.invariant-loop-service
-invariant-loop-service l = l.out.items ≡ l.fn.out.items ++ flat_map part_service_text (take l.service-index l.services)
+invariant-loop-service l = l.out.items ≡ l.fn.out.items ++ flat_map (part_service_text l.details) (take l.service-index l.services)

@@ -1,7 +1,7 @@
 use Rattle.std.proofs.Common.{◌++◌, ◌∷◌, [], ◌∙◌, ap}
 use Rattle.guide_model.specs.Genres.{genres_text}
 use Rattle.guide_text.proofs.Lines.{event_parts, then_line}
-use Rattle.guide_text.proofs.event.put_event.Goals as goal
+use Rattle.guide_text.proofs.event.put_event_line.Goals as goal
 
 pub returns : goal.returns
 returns c =
