@@ -1,5 +1,5 @@
 // The text of a checkpoint.
-ghost use Rattle.std.specs.Prelude.{◌≡◌, ◌<◌, ◌*◌, ◌+◌, ◌^◌, ◌++◌, ◌∷◌, [], IfOk, OnOk, OnErr, flat_map, option_map};
+ghost use Rattle.std.specs.Prelude.{◌≡◌, ◌<◌, ◌*◌, ◌+◌, ◌^◌, ◌++◌, ◌∷◌, [], List, IfOk, OnOk, OnErr, flat_map, option_map};
 ghost use Rattle.std.specs.List.{AllByRecursion};
 ghost use Rattle.mux_model.specs.Sound.{IsSound};
 ghost use Rattle.mux_model.specs.Fed.{fed_services};
@@ -7,18 +7,20 @@ ghost use Rattle.guide_model.specs.Decoding.{IsKept};
 ghost use Rattle.guide_limits.specs.Limits.{IsGuideWithin, IsServiceWithin, IsEventWithin};
 ghost use Rattle.version_book.specs.Book.{given_entries, given_entry};
 ghost use Rattle.journal_model.specs.Steps.{IsStepInWindow};
+ghost use Rattle.journal_model.specs.declared.step.Entry.{Entry as AnEntry};
 ghost use Rattle.journal_text.specs.Lines.{line_text};
 ghost use Rattle.desk_checkpoint.specs.Items.{event_item, filling, raw_rating};
 ghost use Rattle.desk_checkpoint.specs.Steps.{guide_steps, publication_steps};
 ghost use Rattle.desk_checkpoint.specs.Fields.{clock_fields, count_fields, version_fields};
 ghost use Rattle.desk_core.specs.Journal.{publishes};
+ghost use Rattle.desk_core.specs.Lean.{IsLean, StandsFor, stood_for};
 ghost use Rattle.cycle_player.specs.Clock.{reads};
 ghost use Rattle.desk_checkpoint.specs.HandedOver.{HandsOver};
 ghost use Rattle.desk_checkpoint.specs.Text.{AreBytes, HasByteBodies, HasByteContent, clock_text, counter_text, desk_steps, edits_of, feed_steps, key_text};
 ghost use Rattle.desk_checkpoint.specs.Text.{put_text, section_text, service_text, start_text, step_text, steps_text};
 
 use cycle_player::{Clock, CyclePlayer, PlayerState};
-use desk_core::Desk;
+use desk_core::{Desk, LeanDesk};
 use guide_model::{Event, Guide, Rating, ServiceGuide, Txt};
 use journal_model::{Edit, Item, Length, RawRating, Stamp, Step};
 use journal_text::{LineWriter, write_command};
@@ -289,19 +291,19 @@ fn put_latest(
 fn put_steps(
     alloc: Global,
     out: &mut Vec<u8>,
-    desk: &Desk,
+    desk: &LeanDesk,
     shift: u64,
     clock: Clock,
 ) -> Result<(), AllocError>
-    requires { shift < 10 ^ 18 }
-    ensures { OnOk result (out.new.items ≡ out.old.items
-        ++ (line_text (count_fields (shift + publishes desk.now.entries))
-        ++ clock_text desk.now.mux.rate (reads clock) ++ steps_text (desk_steps shift desk.now))) }
+    requires { IsLean desk.now }
+    ensures { (journal : List AnEntry) → StandsFor journal desk.now → OnOk result (out.new.items
+        ≡ out.old.items ++ (line_text (count_fields (shift + publishes journal))
+        ++ clock_text desk.now.mux.rate (reads clock)
+        ++ steps_text (desk_steps shift (stood_for journal desk.now)))) }
 {
     let mux = desk.mux();
     let latest = desk.latest()?;
-    prove!(latest.number <= desk.entries().len() as u64);
-    let count = shift + latest.number;
+    let count = shift.checked_add(latest.number).ok_or(AllocError)?;
     put_head(alloc, out, count, mux.rate, clock)?;
     put_latest(alloc, out, mux, count, &latest.guide)?;
     let draft = desk.draft()?;
@@ -414,13 +416,14 @@ fn put_state(alloc: Global, out: &mut Vec<u8>, state: &PlayerState) -> Result<()
 // A checkpoint in a list of its own.
 fn text_of(
     alloc: Global,
-    desk: &Desk,
+    desk: &LeanDesk,
     shift: u64,
     player: &CyclePlayer,
 ) -> Result<Vec<u8>, AllocError>
-    requires shift { shift < 10 ^ 18 }
+    requires lean { IsLean desk.now }
     requires at_end { player.now.left ≡ [] }
-    ensures text { IfOk result (λ text. text.items ≡ start_text shift desk.now player.now) }
+    ensures text { (journal : List AnEntry) → StandsFor journal desk.now → IfOk result (λ text.
+        text.items ≡ start_text shift (stood_for journal desk.now) player.now) }
     ensures handed { OnOk result (HandsOver player.now) }
 {
     let state = player.kept()?;
@@ -429,6 +432,26 @@ fn text_of(
     put_state(alloc, &mut text, &state)?;
     text.extend_from_slice(b"end\n")?;
     Ok(text)
+}
+
+/// As [`write_checkpoint`], of a desk that keeps no journal; a count of publications that 64 bits
+/// cannot say is want of memory.
+pub fn write_lean_checkpoint(
+    alloc: Global,
+    desk: &LeanDesk,
+    shift: u64,
+    player: &CyclePlayer,
+    out: &mut Vec<u8>,
+) -> Result<(), AllocError>
+    requires lean { IsLean desk.now }
+    requires at_end { player.now.left ≡ [] }
+    ensures text { (journal : List AnEntry) → StandsFor journal desk.now → OnOk result (out.new.items
+        ≡ out.old.items ++ start_text shift (stood_for journal desk.now) player.now) }
+    ensures handed { OnOk result (HandsOver player.now) }
+    ensures kept { OnErr result (out.new.items ≡ out.old.items) }
+{
+    let text = text_of(alloc, desk, shift, player)?;
+    out.extend_from_slice(&text)
 }
 
 /// Appends the checkpoint of a desk and of a player at its end, where the numbers of the desk's
@@ -452,6 +475,5 @@ pub fn write_checkpoint(
     ensures handed { OnOk result (HandsOver player.now) }
     ensures kept { OnErr result (out.new.items ≡ out.old.items) }
 {
-    let text = text_of(alloc, desk, shift, player)?;
-    out.extend_from_slice(&text)
+    write_lean_checkpoint(alloc, desk.lean(), shift, player, out)
 }

@@ -5,11 +5,16 @@ use Rattle.journal_model.specs.declared.step.Step.{Step}
 use Rattle.journal_model.specs.declared.step.Outcome.{Outcome}
 use Rattle.journal_model.specs.declared.step.Outcome.TheVariants.{Edited, Ticked, Late, Published, Swapped}
 use Rattle.desk_core.specs.declared.lean.LeanDesk.{LeanDesk}
+use Rattle.desk_core.specs.Desks.{DeskState}
 use Rattle.desk_core.specs.Holding.{IsDerived}
 
 -- the desk keeps what a desk with this journal keeps beside it
 abbrev pub StandsFor : List Entry → LeanDesk → Type 0
 StandsFor journal desk = IsDerived desk.mux journal desk.held
+
+-- the desk with such a journal
+abbrev pub stood_for : List Entry → LeanDesk → DeskState
+stood_for journal desk = record { mux = desk.mux; entries = journal }
 
 -- one more entry
 abbrev pub with_entry : List Entry → ℕ → Step → Outcome → List Entry

@@ -4,12 +4,14 @@ ghost use Rattle.journal_model.specs.Steps.{IsInWindow, IsStepWithin};
 ghost use Rattle.journal_model.specs.declared.step.Entry.{Entry as AnEntry};
 ghost use Rattle.mux_model.specs.Sound.{IsSound};
 ghost use Rattle.guide_limits.specs.Limits.{IsGuideWithin};
-ghost use Rattle.desk_core.specs.Desks.{on_air_of};
+ghost use Rattle.desk_core.specs.Desks.{latest_of, on_air_of};
 ghost use Rattle.desk_core.specs.Journal.{outcome_of};
-ghost use Rattle.desk_core.specs.Lean.{IsLean, IsNumbered, StandsFor, with_entry};
+ghost use Rattle.desk_core.specs.Lean.{IsLean, IsNumbered, StandsFor, stood_for, with_entry};
+ghost use Rattle.desk_core.specs.Publications.{guide_after};
 
 use crate::airing::Airing;
 use crate::desk_state::{Derived, open_held, perform};
+use guide_model::Guide;
 use journal_model::{Outcome, Step};
 use mux_model::Mux;
 use std::alloc::{AllocError, Global};
@@ -18,7 +20,8 @@ use std::alloc::{AllocError, Global};
 const MOST_PUBLICATIONS: u64 = 1 << 63;
 
 /// A desk without its journal: it does what a [`crate::Desk`] does and keeps what the next steps need, so its memory goes by what stands
-/// and not by how much was asked. Its clauses speak of each journal that it stands for (`StandsFor`).
+/// and not by how much was asked. Its clauses speak of each journal that it stands for (`StandsFor`). A [`crate::Desk`] is one with its
+/// entries.
 #[derive(Drop)]
 pub struct LeanDesk {
     pub(crate) mux: Mux,
@@ -57,8 +60,7 @@ impl LeanDesk {
     /// The publication on air, as [`crate::Desk::on_air`] gives it.
     pub fn on_air(&self) -> Result<Airing, AllocError>
         ensures airing { (journal : List AnEntry) → StandsFor journal self.now
-            → IfOk result (λ airing. airing
-            ≡ on_air_of (record { mux = self.now.mux; entries = journal })) }
+            → IfOk result (λ airing. airing ≡ on_air_of (stood_for journal self.now)) }
         ensures within { IsLean self.now → IfOk result (λ airing. IsGuideWithin airing.guide) }
         ensures moment { IsLean self.now → IfOk result (λ airing. airing.moment.0 < 65536 * 86400) }
     {
@@ -68,6 +70,29 @@ impl LeanDesk {
             moment: self.held.on_air.moment,
             guide,
         })
+    }
+
+    /// What [`crate::Desk::latest`] gives.
+    pub fn latest(&self) -> Result<Airing, AllocError>
+        ensures airing { (journal : List AnEntry) → StandsFor journal self.now
+            → IfOk result (λ airing. airing ≡ latest_of (stood_for journal self.now)) }
+        ensures within { IsLean self.now → IfOk result (λ airing. IsGuideWithin airing.guide) }
+        ensures moment { IsLean self.now → IfOk result (λ airing. airing.moment.0 < 65536 * 86400) }
+    {
+        Ok(Airing {
+            number: self.held.published,
+            moment: self.held.moment,
+            guide: self.held.latest.share()?,
+        })
+    }
+
+    /// What [`crate::Desk::draft`] gives.
+    pub fn draft(&self) -> Result<Guide, AllocError>
+        ensures guide { (journal : List AnEntry) → StandsFor journal self.now
+            → IfOk result (λ guide. guide ≡ guide_after self.now.mux journal) }
+        ensures within { IsLean self.now → IfOk result (λ guide. IsGuideWithin guide) }
+    {
+        self.held.book.guide(self.held.moment)
     }
 
     /// The multiplex.

@@ -11,7 +11,7 @@ use Rattle.journal_model.specs.declared.step.Step.TheVariants.{Edit as edit, Tic
 use Rattle.journal_model.specs.declared.step.Outcome.{Outcome}
 use Rattle.journal_model.specs.declared.step.Entry.{Entry}
 use Rattle.desk_core.specs.Journal.{Legal, entry_after, moment_of, publishes}
-use Rattle.desk_core.specs.Desks.{DeskState}
+use Rattle.desk_core.specs.Desks.{DeskState, fresh}
 use Rattle.desk_core.proofs.DerivedFacts.{not_aired}
 use Rattle.version_book.specs.Airings.{CycleForm}
 use Rattle.journal_air.specs.Air.{airings, mux_form}
@@ -26,7 +26,11 @@ use Rattle.epg_report.specs.declared.status.Origin.TheVariants.{Feed, Input, Rec
 use Rattle.epg_report.specs.Texts.{CanBeSaid}
 use Rattle.epg_play.specs.declared.stop.PlayStop.{PlayStop}
 use Rattle.epg_play.specs.declared.stop.PlayStop.TheVariants.{NoMux as Undescribed, NoCommand as Refused, Disagrees as Differs, Read, Air as OnAir, Memory as NoMemory}
-use Rattle.epg_play.specs.Items.{ItemDid, StepAt, Stops, Went}
+use Rattle.journal_model.specs.Raising.{all_raised}
+use Rattle.epg_play.specs.declared.desk.ScriptDesk.{ScriptDesk}
+use Rattle.epg_play.specs.declared.item.ItemDone.TheVariants as item
+use Rattle.epg_play.specs.Items.{IsAt, ItemDid, ItemLeft, Stands, StepAt, Stops, Went}
+use Rattle.epg_play.proofs.RunFacts.{none_raised}
 use Rattle.epg_play.specs.Leaves.{status_for}
 use Rattle.epg_play.specs.Played.{HasReadCause as HasInputCause}
 use Rattle.epg_audit.specs.Audits.{AuditDid, HasAuditCause, IsOfScript, ScriptStops, desk_airings}
@@ -276,3 +280,68 @@ module _ {S F : Type 0} (nulls : Bool) (left : S → Option (List ℕ)) (gives :
       → OnOk result (new.number ≡ mid.number) → OnOk result (AreCounted passed bytes)
   end_counts c passed bytes (Ok u) f told ends same = end_number c passed bytes f told ends same
   end_counts c passed bytes (Err status) f told ends same = tt
+
+-- ---- so far an audit has come
+
+pub own_entries : (mux : Mux) (state : DeskState) (desk : ScriptDesk) → IsAt (fresh mux) state desk → desk.keeps ≡ true → desk.shift ≡ 0 → desk.made.items ≡ state.entries
+own_entries mux state desk at keeps shift =
+    at.made keeps ∙ ap (λ (n : ℕ). all_raised n at.more) shift ∙ none_raised at.more ∙ sym at.entries
+
+pub record Audits {S F : Type 0} (left : S → Option (List ℕ)) (gives : F → Option (List ℕ)) (first now : Reading S) (start mid : PacketReading F) (old desk : ScriptDesk) (c : Auditing) (passed_old passed : Option ℕ) : Type 0 where
+  pub state : DeskState
+  pub at : IsAt (fresh old.desk.mux) state desk
+  pub shift : desk.shift ≡ 0
+  pub form : form_of c ≡ mux_form state.mux
+  pub went : Went desk.shift left first now (fresh old.desk.mux) state desk.last
+  pub follows : (nulls : Bool) → passed_old ≡ passed_over nulls [] → Follows state.mux.rate nulls gives start mid (desk_airings state) c passed
+
+module _ {S F : Type 0} (left : S → Option (List ℕ)) (gives : F → Option (List ℕ)) (first now new : Reading S) (start mid : PacketReading F) (old desk next : ScriptDesk) (c : Auditing) (passed_old passed : Option ℕ)
+    (a : Audits left gives first now start mid old desk c passed_old passed) (shift : next.shift ≡ desk.shift) where
+  abbrev before : DeskState
+  before = fresh old.desk.mux
+
+  legal : Legal a.state.mux a.state.entries
+  legal = subst (λ (m : Mux). Legal m a.state.entries) a.at.stands.mux a.at.stands.journal.legal
+
+  -- of an item that goes on, and of a stop, with the numbers of the journal itself
+  pub own_went : (state : DeskState) → Went next.shift left first new before state next.last → Went 0 left first new before state next.last
+  own_went state w = subst (λ (n : ℕ). Went n left first new before state next.last) (shift ∙ a.shift) w
+
+  pub own_stops : (state : DeskState) (r : Result (Unit {0}) PlayStop) → Stops next.shift left first new before state r → Stops 0 left first new before state r
+  own_stops state r s = subst (λ (n : ℕ). Stops n left first new before state r) (shift ∙ a.shift) s
+
+  pub audits_other : ItemLeft left first new before a.state next (Ok item.Other) → Audits left gives first new start mid old next c passed_old passed
+  audits_other i = record {
+    state = i.now;
+    at = i.at;
+    shift = shift ∙ a.shift;
+    form = a.form ∙ sym (ap mux_form (other_mux a.state i.now i.did));
+    went = i.goes_on;
+    follows = λ nulls none. subst (λ (l : List AiredTables). Follows i.now.mux.rate nulls gives start mid l c passed) (sym (other_keeps a.state i.now legal i.did))
+        (subst (λ (m : Mux). Follows m.rate nulls gives start mid (desk_airings a.state) c passed) (sym (other_mux a.state i.now i.did)) (a.follows nulls none));
+  }
+
+  module _ (i : ItemLeft left first new before a.state next (Ok item.Swap)) (later : PacketReading F) (c2 : Auditing) (passed2 : Option ℕ) (r : Result (Unit {0}) Status)
+      (checks : (state : DeskState) → Stands state next.desk → (rate : Option ℕ) (nulls : Bool) (start : PacketReading F) (past : List AiredTables)
+      → Follows rate nulls gives start mid past c passed → Checks rate nulls gives start later (past ++ airing_on state (form_of c) ∷ []) c2 passed2 r) where
+    pub checked : (nulls : Bool) → passed_old ≡ passed_over nulls [] → Checks i.now.mux.rate nulls gives start later (desk_airings a.state ++ airing_on i.now (form_of c) ∷ []) c2 passed2 r
+    checked nulls none =
+        checks i.now i.at.stands i.now.mux.rate nulls start (desk_airings a.state)
+        (subst (λ (m : Mux). Follows m.rate nulls gives start mid (desk_airings a.state) c passed) (sym (step_mux true a.state i.now i.did)) (a.follows nulls none))
+
+    pub added : desk_airings a.state ++ airing_on i.now (form_of c) ∷ [] ≡ desk_airings i.now
+    added = swap_adds a.state i.now c legal i.did a.form
+
+  pub audits_swap : (i : ItemLeft left first new before a.state next (Ok item.Swap)) (later : PacketReading F) (c2 : Auditing) (passed2 : Option ℕ) → form_of c2 ≡ form_of c
+      → ((state : DeskState) → Stands state next.desk → (rate : Option ℕ) (nulls : Bool) (start : PacketReading F) (past : List AiredTables)
+      → Follows rate nulls gives start mid past c passed → Checks rate nulls gives start later (past ++ airing_on state (form_of c) ∷ []) c2 passed2 (Ok tt))
+      → Audits left gives first new start later old next c2 passed_old passed2
+  audits_swap i later c2 passed2 form checks = record {
+    state = i.now;
+    at = i.at;
+    shift = shift ∙ a.shift;
+    form = form ∙ a.form ∙ sym (ap mux_form (step_mux true a.state i.now i.did));
+    went = i.goes_on;
+    follows = λ nulls none. subst (λ (l : List AiredTables). Follows i.now.mux.rate nulls gives start later l c2 passed2)
+        (added i later c2 passed2 (Ok tt) checks) (checked i later c2 passed2 (Ok tt) checks nulls none);
+  }

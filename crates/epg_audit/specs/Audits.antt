@@ -1,5 +1,5 @@
 -- How far an audit has come with a script and a recording, and why it stops.
-use Rattle.std.specs.Prelude.{◌≡◌, ◌⊎◌, ℕ, Bool, List, ◌++◌, length, Option, Some, Ok, Err, Result}
+use Rattle.std.specs.Prelude.{◌≡◌, ◌⊎◌, ℕ, Bool, true, List, ◌++◌, length, Option, Some, None, Ok, Err, Result}
 use Rattle.si_causes.specs.Causes.{Rose}
 use Rattle.si_causes.specs.Reading.{Reading}
 use Rattle.packet_reader.specs.Reading.{PacketReading, bytes_left}
@@ -15,7 +15,8 @@ use Rattle.epg_report.specs.declared.status.Status.TheVariants.{Memory, ReadFaul
 use Rattle.epg_report.specs.declared.status.Origin.TheVariants.{Input, Recording}
 use Rattle.epg_play.specs.declared.stop.PlayStop.{PlayStop}
 use Rattle.epg_play.specs.declared.stop.PlayStop.TheVariants.{Air, NoMux}
-use Rattle.epg_play.specs.Items.{Stops, Went}
+use Rattle.epg_play.specs.declared.desk.ScriptDesk.{ScriptDesk}
+use Rattle.epg_play.specs.Items.{IsAt, IsReady, Stops, Went}
 use Rattle.epg_play.specs.Leaves.{status_for}
 use Rattle.epg_audit.specs.declared.cycles.AirCount.{AirCount}
 use Rattle.epg_audit.specs.Recorded.{BeginsWithAir, IsFaulty, IsRecordedAir, passed_over}
@@ -62,6 +63,20 @@ module _ {S F : Type 0} (nulls : Bool) (left : S → Option (List ℕ)) (gives :
       × OfRecording (IsRecordedAir desk.mux.rate nulls (desk_airings desk))
   AuditDid (Err Memory) = Unit {0}
   AuditDid (Err status) = ScriptStops status ⊎ (CycleStops status ⊎ EndStops status)
+
+-- A script begins at the desk, which was asked nothing yet, keeps the entries that it makes, and whose publications have their own numbers.
+pub record IsBegun (desk : ScriptDesk) : Type 0 where
+  pub ready : IsReady desk
+  pub at : IsAt (fresh desk.desk.mux) (fresh desk.desk.mux) desk
+  pub first : desk.last ≡ None
+  pub shift : desk.shift ≡ 0
+  pub keeps : desk.keeps ≡ true
+
+-- The recording was audited by such a script, and the desk has the entries that were made.
+pub record DeskAudited {S F : Type 0} (nulls : Bool) (left : S → Option (List ℕ)) (gives : F → Option (List ℕ)) (old now : Reading S) (start : PacketReading F) (before desk : ScriptDesk) (result : Result (Unit {0}) Status) : Type 0 where
+  pub state : DeskState
+  pub made : desk.made.items ≡ state.entries
+  pub did : AuditDid nulls left gives old now start (fresh before.desk.mux) state result
 
 -- the packets of a recording were counted, and the swaps; and where null packets may stand, these
 abbrev pub IsCounted : Bool → List ℕ → List AiredTables → AirCount → Type 0

@@ -1,7 +1,8 @@
 // The commands of a script, done one after the other, and the cycles that they put on air, held against a recording.
 ghost use Rattle.std.specs.Prelude.{◌≡◌, ◌≤◌, ◌++◌, ◌∷◌, [], Bool, List, ℕ, Option, None, Some, IfErr, OnOk, is_some, length};
 ghost use Rattle.std.specs.Io.KnownBytes.{IsAtEnd as IsReadToEnd};
-ghost use Rattle.desk_core.specs.Journal.{Legal};
+ghost use Rattle.desk_core.specs.Desks.{DeskState};
+ghost use Rattle.desk_core.specs.Lean.{IsLean};
 ghost use Rattle.desk_core.specs.Publications.{aired_by, swaps};
 ghost use Rattle.packet_reader.specs.Reading.{PacketReading, bytes_left};
 ghost use Rattle.ts_packets.specs.WholePackets.{whole_packets};
@@ -10,15 +11,16 @@ ghost use Rattle.air_audit.specs.CycleChecking.{IsAtEnd, IsOf, StandsAt, form_of
 ghost use Rattle.journal_air.specs.Air.{mux_form};
 ghost use Rattle.journal_air.specs.OnAir.{airing_on};
 ghost use Rattle.epg_report.specs.Texts.{CanBeSaid};
-ghost use Rattle.epg_audit.specs.Audits.{AuditDid, HasAuditCause};
+ghost use Rattle.epg_play.specs.Items.{Stands};
+ghost use Rattle.epg_audit.specs.Audits.{DeskAudited, HasAuditCause, IsBegun};
 ghost use Rattle.epg_audit.specs.Finds.{IsMetBehind};
 ghost use Rattle.epg_audit.specs.Checks.{Checks, Follows, HasReadCause, IsOfCheck};
 ghost use Rattle.epg_audit.specs.Recorded.{passed_over};
 
 use crate::recording::{check_cycle, check_end};
 use air_audit::CycleChecker;
-use desk_core::Desk;
-use epg_play::{ItemDone, do_item, status_of};
+use desk_core::LeanDesk;
+use epg_play::{ItemDone, ScriptDesk, do_item, status_of};
 use epg_report::Status;
 use journal_model::{Entry, Outcome};
 use packet_reader::PacketReader;
@@ -36,11 +38,13 @@ pub(crate) struct AirCount {
 }
 
 // Has the checker begin the cycle of what is on air at the desk.
-fn begin_cycle(alloc: Global, desk: &Desk, checker: &mut CycleChecker) -> Result<(), AllocError>
+fn begin_cycle(alloc: Global, desk: &LeanDesk, checker: &mut CycleChecker) -> Result<(), AllocError>
+    requires lean { IsLean desk.now }
     requires at_end { IsAtEnd checker.old }
-    ensures begun { (airings : List AiredTables) (accepted : List (List ℕ))
+    ensures begun { (state : DeskState) → Stands state desk.now
+        → (airings : List AiredTables) (accepted : List (List ℕ))
         → StandsAt airings accepted checker.old → OnOk result (StandsAt
-        (airings ++ airing_on desk.now (form_of checker.old) ∷ []) accepted checker.new) }
+        (airings ++ airing_on state (form_of checker.old) ∷ []) accepted checker.new) }
     ensures form { form_of checker.new ≡ form_of checker.old }
     ensures kind { (rate : Option ℕ) (nulls : Bool) → IsOf rate nulls checker.old
         → IsOf rate nulls checker.new }
@@ -53,18 +57,19 @@ fn begin_cycle(alloc: Global, desk: &Desk, checker: &mut CycleChecker) -> Result
 // Checks the cycle of what is on air at the desk.
 fn check_on_air<F: Source>(
     alloc: Global,
-    desk: &Desk,
+    desk: &LeanDesk,
     packets: &mut PacketReader<F>,
     checker: &mut CycleChecker,
     passed: &mut Option<u64>,
 ) -> Result<(), Status>
+    requires lean { IsLean desk.now }
     requires going { packets.old.stop ≡ None }
     requires at_end { IsAtEnd checker.old }
-    ensures checks { (rate : Option ℕ) (nulls : Bool) (start : PacketReading F)
-        (past : List AiredTables)
+    ensures checks { (state : DeskState) → Stands state desk.now
+        → (rate : Option ℕ) (nulls : Bool) (start : PacketReading F) (past : List AiredTables)
         → Follows rate nulls F.left start packets.old past checker.old passed.old
         → Checks rate nulls F.left start packets.new
-        (past ++ airing_on desk.now (form_of checker.old) ∷ []) checker.new passed.new result }
+        (past ++ airing_on state (form_of checker.old) ∷ []) checker.new passed.new result }
     ensures at_end { OnOk result (IsAtEnd checker.new) }
     ensures going { OnOk result (packets.new.stop ≡ None) }
     ensures form { form_of checker.new ≡ form_of checker.old }
@@ -84,7 +89,7 @@ fn check_on_air<F: Source>(
 pub(crate) fn audit_rest<S: Source, F: Source>(
     alloc: Global,
     lines: &mut LineReader<S>,
-    desk: &mut Desk,
+    desk: &mut ScriptDesk,
     packets: &mut PacketReader<F>,
     checker: &mut CycleChecker,
     passed: &mut Option<u64>,
@@ -94,12 +99,12 @@ pub(crate) fn audit_rest<S: Source, F: Source>(
     requires first { packets.old.number ≡ 0 }
     requires stands { StandsAt [] [] checker.old }
     requires kind { (nulls : Bool) → passed.old ≡ passed_over nulls []
-        → IsOf desk.old.mux.rate nulls checker.old }
+        → IsOf desk.old.desk.mux.rate nulls checker.old }
     requires at_end { IsAtEnd checker.old }
-    requires form { form_of checker.old ≡ mux_form desk.old.mux }
-    requires none { desk.old.entries ≡ [] }
+    requires form { form_of checker.old ≡ mux_form desk.old.desk.mux }
+    requires begun { IsBegun desk.old }
     ensures did { (nulls : Bool) → passed.old ≡ passed_over nulls []
-        → AuditDid nulls S.left F.left lines.old lines.new packets.old desk.old desk.new result }
+        → DeskAudited nulls S.left F.left lines.old lines.new packets.old desk.old desk.new result }
     ensures counted { (nulls : Bool) (bytes : List ℕ) → passed.old ≡ passed_over nulls []
         → bytes_left F.left packets.old ≡ Some bytes
         → OnOk result ((packets.new.number ≡ length (whole_packets bytes))
@@ -111,11 +116,10 @@ pub(crate) fn audit_rest<S: Source, F: Source>(
         (F.faults packets.old.source) (F.faults packets.new.source) result }
     ensures same { S.same lines.old.source lines.new.source }
 {
-    let mut made = None;
     'items: loop {
-        match do_item(alloc, lines, desk, &mut made, 0) {
+        match do_item(alloc, lines, desk) {
             Ok(ItemDone::Swap) => {
-                if let Err(status) = check_on_air(alloc, desk, packets, checker, passed) {
+                if let Err(status) = check_on_air(alloc, &desk.desk, packets, checker, passed) {
                     return Err(status);
                 }
             }

@@ -17,8 +17,8 @@ ghost use Rattle.epg_audit.specs.Leaves.{AuditRan};
 use crate::cycles::{AirCount, audit_rest, swap_count};
 use crate::ending::finish;
 use air_audit::CycleChecker;
-use desk_core::Desk;
-use epg_play::{mux_stop_of, status_of};
+use desk_core::LeanDesk;
+use epg_play::{ScriptDesk, mux_stop_of, status_of};
 use epg_report::{Status, out_of_memory};
 use mux_config::read_mux;
 use mux_model::Mux;
@@ -62,14 +62,15 @@ fn audit_recording<S: Source, F: Source>(
     let Ok(mut checker) = open_checker(alloc, &mux, nulls) else {
         return Err(Status::Memory);
     };
-    let Ok(mut desk) = Desk::open(alloc, mux) else {
+    let Ok(desk) = LeanDesk::open(alloc, mux) else {
         return Err(Status::Memory);
     };
+    let mut desk = ScriptDesk::open(alloc, desk, 0, true);
     let mut passed = nulls.then_some(0);
     audit_rest(alloc, lines, &mut desk, packets, &mut checker, &mut passed)?;
     Ok(AirCount {
         packets: packets.number(),
-        swaps: swap_count(desk.entries()),
+        swaps: swap_count(&desk.made),
         nulls: passed,
     })
 }

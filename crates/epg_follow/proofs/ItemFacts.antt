@@ -9,18 +9,15 @@ use Rattle.journal_model.specs.declared.step.Step.{Step}
 use Rattle.journal_model.specs.declared.step.Step.TheVariants.{Edit, Publish, Swap, Tick}
 use Rattle.journal_model.specs.declared.step.Outcome.{Outcome}
 use Rattle.journal_model.specs.declared.step.Entry.{Entry}
-use Rattle.journal_model.specs.Steps.{IsEntryInWindow, IsInWindow, IsStepInWindow, IsStepWithin}
-use Rattle.desk_core.specs.Lean.{IsNumbered}
 use Rattle.journal_model.specs.Raising.{CanBeRaised, raised}
-use Rattle.epg_play.proofs.RaiseFacts.{can_raise, raised_window}
 use Rattle.desk_core.specs.Journal.{Legal, entry_after}
 use Rattle.desk_core.specs.Desks.{DeskState}
 use Rattle.desk_core.specs.Lean.{StandsFor}
 use Rattle.journal_air.specs.declared.send.SendStop.{SendStop}
 use Rattle.journal_air.specs.declared.send.SendStop.TheVariants as send
-use Rattle.journal_air.specs.OnAir.{HasAired, HasAiredFront, IsPlayerOf, SentCycle, airing_on, and_step, is_swap}
+use Rattle.journal_air.specs.OnAir.{AreAlike, HasAired, HasAiredFront, IsPlayerOf, SentCycle, airing_on, and_step, is_swap}
 use Rattle.journal_air.specs.Tallied.{CountedCycle, HasTallied}
-use Rattle.journal_air.proofs.SwapFacts.{KeepsForm, other_aired, player_kept, swap_aired}
+use Rattle.journal_air.proofs.SwapFacts.{other_aired, player_kept, swap_aired}
 use Rattle.journal_air.proofs.Tallied.{other_tallied, swap_tallied}
 use Rattle.epg_report.specs.Told.{ReportTaken}
 use Rattle.script_lines.specs.declared.script.ScriptItem.TheVariants.{Step as step}
@@ -148,13 +145,13 @@ module _ (keep : Bool) (journal : List Entry) (old mid : Follower) (who : ℕ) (
   }
 
   -- a swap, whose cycle was sent or not
-  module _ (end : Follower) (swap : is_swap s ≡ true) (desk : end.desk ≡ mid.desk) (made_same : end.made ≡ mid.made) (form : end.player.form ≡ mid.player.form) (rate : end.player.rate ≡ mid.player.rate)
+  module _ (end : Follower) (swap : is_swap s ≡ true) (desk : end.desk ≡ mid.desk) (made_same : end.made ≡ mid.made) (alike : AreAlike mid.player end.player)
       (wrote : Appends report.old report.new (piece_text (Entered entry))) where
     mux_end : end.desk.mux ≡ old.desk.mux
     mux_end = ap (λ d. d.mux) desk ∙ mux
 
-    keeps : KeepsForm old.player end.player
-    keeps = record { form = form ∙ ap (λ (p : Sending). p.form) player; rate = rate ∙ ap (λ (p : Sending). p.rate) player }
+    keeps : AreAlike old.player end.player
+    keeps = record { form = alike.form ∙ ap (λ (p : Sending). p.form) player; rate = alike.rate ∙ ap (λ (p : Sending). p.rate) player }
 
     abbrev Sends : Result (Unit {0}) SendStop → Type 0
     Sends r = (xs : List Aired) → AtEnd xs mid.player → SentCycle xs (airing_on (desk_of after mid) mid.player.form) end.player air.old air.new r
@@ -216,23 +213,6 @@ module _ (keep : Bool) (journal : List Entry) (old mid : Follower) (who : ℕ) (
 
 pub bad_adds : (keep : Bool) (n : ℕ) (why : Why) → keep ≡ true → unless_kept keep (Noted n why) (NoLine n) (Noted n why ∷ []) ≡ Adds (Noted n why)
 bad_adds keep n why keeps = rw keeps refl
-
--- an entry that can be written, whose step is the desk's and whose outcome can be raised
-pub few_raised : (shift : ℕ) (outcome : Outcome) → shift < 10 ^ 18 → IsNumbered (2 ^ 63) outcome → CanBeRaised shift outcome
-few_raised shift outcome low numbered = can_raise shift (2 ^ 63) outcome low (omega arith) numbered
-
-step_window : (s : Step) → IsStepWithin s → IsStepInWindow s
-step_window (Edit feed e) within = tt
-step_window (Tick at) within = within
-step_window Publish within = tt
-step_window Swap within = tt
-
-pub entry_window : (who shift : ℕ) (s : Step) (outcome raised_to : Outcome) → IsStepWithin s → IsInWindow outcome → raised_to ≡ raised shift outcome
-    → IsEntryInWindow (record { who = who; step = s; outcome = raised_to })
-entry_window who shift s outcome raised_to within window is = record {
-  step = step_window s within;
-  outcome = subst IsInWindow (sym is) (raised_window shift outcome window);
-}
 
 -- the line of an entry is that of its command
 pub as_command : (keep : Bool) (journal : List Entry) (old new : Follower) (who : ℕ) (s : Step) (air report : ReportTaken) (r : Result (Unit {0}) FollowStop) (entry : Entry)

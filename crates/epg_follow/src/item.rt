@@ -1,21 +1,18 @@
 // The lines of a script that is followed, done one after the other.
-ghost use Rattle.std.specs.Prelude.{◌≡◌, ◌≤◌, ◌<◌, ◌^◌, ◌∷◌, ◌++◌, false, [], Bool, List, ℕ, None, Some, Ok, Err, IfErr, IfOk, IfSome, OnErr, OnOk};
+ghost use Rattle.std.specs.Prelude.{◌≡◌, ◌≤◌, ◌<◌, ◌∷◌, ◌++◌, false, [], Bool, List, None, Some, Ok, Err, IfErr, IfOk, OnOk};
 ghost use Rattle.journal_model.specs.Steps.{IsEntryInWindow, IsInWindow, IsStepWithin};
 ghost use Rattle.journal_model.specs.declared.step.Entry.{Entry as AnEntry};
 ghost use Rattle.script_lines.specs.declared.script.ScriptItem.TheVariants.{Step as AStep, Kept};
 ghost use Rattle.script_notes.specs.declared.noting.Noting.TheVariants.{Bad, Item};
 ghost use Rattle.script_notes.specs.Whys.{CanBeSaid};
-ghost use Rattle.air_model.specs.Air.{Aired};
-ghost use Rattle.cycle_player.specs.Sending.{AtEnd};
-ghost use Rattle.journal_air.specs.OnAir.{HasAirCause, SentCycle, airing_on, is_swap};
-ghost use Rattle.journal_air.specs.Tallied.{CountedCycle};
-ghost use Rattle.desk_core.specs.Lean.{IsLean, StandsFor};
+ghost use Rattle.journal_air.specs.OnAir.{is_swap};
+ghost use Rattle.desk_core.specs.Lean.{StandsFor};
 ghost use Rattle.script_notes.specs.Pieces.{Entered, Noted, piece_text};
 ghost use Rattle.epg_report.specs.Told.{told};
 ghost use Rattle.desk_core.specs.Journal.{entry_after};
 ghost use Rattle.epg_report.specs.Told.{ReportTaken};
 ghost use Rattle.epg_follow.specs.Course.{entered};
-ghost use Rattle.epg_follow.specs.Items.{CanFollow, CanRead, Falls, HasEntered, HaveCauses, IsSaid, ItemDid, LineDid, StaysReady, TookNothing, Writes, as_item, desk_of};
+ghost use Rattle.epg_follow.specs.Items.{CanFollow, CanRead, Falls, HasEntered, HaveCauses, IsSaid, ItemDid, LineDid, StaysReady, TookNothing, Writes, as_item};
 ghost use Rattle.epg_follow.specs.declared.follower.Follower.{Follower as AFollower};
 ghost use Rattle.epg_follow.specs.Stops.{read_stop};
 ghost use Rattle.std.specs.Io.KnownBytes.{IsAtEnd};
@@ -24,7 +21,7 @@ use crate::follower::Follower;
 use crate::stop::FollowStop;
 use epg_play::agree;
 use input_lines::EditStop;
-use journal_air::{SendStop, send_cycle};
+use journal_air::{SendStop, send_on_air};
 use journal_model::{Entry, Outcome, Step, raise};
 use journal_text::{ScriptItem, write_entry};
 use script_notes::{Noting, Why, next_noting, put_comment};
@@ -80,36 +77,6 @@ fn report_comment<R: Sink>(
     write_out(&text, report)
 }
 
-// Sends the cycle of what is on air at the desk.
-fn send<A: Sink>(alloc: Global, follower: &mut Follower, air: &mut A) -> Result<(), SendStop>
-    requires at_end { follower.old.player.left ≡ [] }
-    requires lean { IsLean follower.old.desk }
-    ensures sent { (journal : List AnEntry) → StandsFor journal follower.old.desk
-        → (xs : List Aired) → AtEnd xs follower.old.player
-        → SentCycle xs (airing_on (desk_of journal follower.old) follower.old.player.form)
-        follower.new.player (A.written air.old) (A.written air.new) result }
-    ensures counted { (journal : List AnEntry) → StandsFor journal follower.old.desk
-        → CountedCycle (airing_on (desk_of journal follower.old) follower.old.player.form)
-        follower.old.player follower.new.player result }
-    ensures others { follower.new ≡ record follower.old { player = follower.new.player } }
-    ensures ended { OnOk result (follower.new.player.left ≡ []) }
-    ensures form { follower.new.player.form ≡ follower.old.player.form }
-    ensures rate { follower.new.player.rate ≡ follower.old.player.rate }
-    ensures cause { HasAirCause (A.faults air.old) (A.faults air.new) result }
-    ensures memory { result ≡ Err SendStop.Memory → air.new ≡ air.old }
-    ensures later { A.faults air.old ≤ A.faults air.new }
-    ensures same { A.same air.old air.new }
-{
-    let airing = follower.desk.on_air()?;
-    send_cycle(
-        alloc,
-        follower.desk.mux(),
-        &airing,
-        &mut follower.player,
-        air,
-    )
-}
-
 // Does a command at the desk, and says its entry as it is reported.
 fn entry_of(follower: &mut Follower, who: u32, step: Step) -> Result<Entry, AllocError>
     requires ready { CanFollow follower.old }
@@ -157,7 +124,7 @@ fn carry_out<A: Sink, R: Sink>(
     if !swaps(&entry.step) {
         return Ok(());
     }
-    match send(alloc, follower, air) {
+    match send_on_air(alloc, &follower.desk, &mut follower.player, air) {
         Ok(()) => Ok(()),
         Err(SendStop::Air) => Err(FollowStop::Air),
         Err(SendStop::Memory) => Err(FollowStop::Memory),

@@ -1,11 +1,12 @@
 // A script that is followed to its end.
-ghost use Rattle.std.specs.Prelude.{◌≡◌, ◌≤◌, ◌<◌, ◌^◌, [], List, ℕ, None, Some, IfErr, OnOk, Ok};
+ghost use Rattle.std.specs.Prelude.{◌≡◌, ◌<◌, ◌^◌, [], List, ℕ, None, Some, IfErr, Ok};
 ghost use Rattle.si_causes.specs.Causes.{Rose};
 ghost use Rattle.si_causes.specs.Reading.{fresh_to};
 ghost use Rattle.si_causes.specs.Opening.{Files};
 ghost use Rattle.epg_report.specs.Asked.{HasAskedFor};
 ghost use Rattle.epg_play.specs.Beginning.{IsOfResume};
 ghost use Rattle.epg_play.specs.CheckpointRuns.{Nothing, NothingAsked};
+ghost use Rattle.epg_play.specs.Courses.{HasMet};
 ghost use Rattle.epg_play.specs.Leaves.{IsOfPlay};
 ghost use Rattle.epg_play.specs.Script.{long_limit};
 ghost use Rattle.epg_follow.specs.Behind.{FollowsBehind};
@@ -77,14 +78,10 @@ fn follow_on<S: Source, A: Sink, R: Sink>(
         (told A.written A.faults air.old air.new)
         (told R.written R.faults report.old report.new) result }
     ensures known { IsBehindMux result }
-    ensures end { result ≡ Status.Done → IsAtEnd (S.left lines.new.source) }
-    ensures input_cause { result ≡ Status.ReadFault Origin.Input
-        → Rose (S.faults lines.old.source) (S.faults lines.new.source) }
-    ensures air_cause { result ≡ Status.WriteFault Outlet.Air
-        → Rose (A.faults air.old) (A.faults air.new) }
+    ensures met { HasMet S.left S.faults S.same lines.old.source lines.new.source
+        A.faults air.old air.new result }
     ensures report_cause { result ≡ Status.WriteFault Outlet.Report
         → Rose (R.faults report.old) (R.faults report.new) }
-    ensures same { S.same lines.old.source lines.new.source }
 {
     let mut follower = Follower::from(start);
     let followed = follow_rest(alloc, lines, &mut follower, keep, air, report);
@@ -107,14 +104,10 @@ fn follow_new<S: Source, A: Sink, R: Sink>(
         (told R.written R.faults report.old report.new))
         text (S.left lines.new.source) result }
     ensures known { IsOfPlay result }
-    ensures end { result ≡ Status.Done → IsAtEnd (S.left lines.new.source) }
-    ensures input_cause { result ≡ Status.ReadFault Origin.Input
-        → Rose (S.faults lines.old.source) (S.faults lines.new.source) }
-    ensures air_cause { result ≡ Status.WriteFault Outlet.Air
-        → Rose (A.faults air.old) (A.faults air.new) }
+    ensures met { HasMet S.left S.faults S.same lines.old.source lines.new.source
+        A.faults air.old air.new result }
     ensures report_cause { result ≡ Status.WriteFault Outlet.Report
         → Rose (R.faults report.old) (R.faults report.new) }
-    ensures same { S.same lines.old.source lines.new.source }
 {
     let mux = match read_mux(alloc, lines) {
         Ok(mux) => mux,
@@ -171,18 +164,14 @@ fn follow_from<O: Opener, S: Source, A: Sink, R: Sink>(
         text (S.left lines.new.source) result }
     ensures known { IsOfResume result }
     ensures asked { HasAskedFor path.now (O.tried opener.old) (O.tried opener.new) result }
-    ensures end { result ≡ Status.Done → IsAtEnd (S.left lines.new.source) }
-    ensures input_cause { result ≡ Status.ReadFault Origin.Input
-        → Rose (S.faults lines.old.source) (S.faults lines.new.source) }
+    ensures met { HasMet S.left S.faults S.same lines.old.source lines.new.source
+        A.faults air.old air.new result }
     ensures open_cause { (n : ℕ) → result ≡ Status.OpenFault n
         → Rose (O.faults opener.old) (O.faults opener.new) }
     ensures read_cause { result ≡ Status.ReadFault Origin.Recording
         → Rose (O.read_faults opener.old) (O.read_faults opener.new) }
-    ensures air_cause { result ≡ Status.WriteFault Outlet.Air
-        → Rose (A.faults air.old) (A.faults air.new) }
     ensures report_cause { result ≡ Status.WriteFault Outlet.Report
         → Rose (R.faults report.old) (R.faults report.new) }
-    ensures same { S.same lines.old.source lines.new.source }
 {
     let mux = match read_mux(alloc, lines) {
         Ok(mux) => mux,

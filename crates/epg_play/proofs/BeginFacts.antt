@@ -4,7 +4,7 @@ use Rattle.std.specs.Prelude.{Option, Some, Ok, Err, Result, IfErr}
 use Rattle.std.proofs.KnownBytes.{prepend_known-nil}
 use Rattle.si_causes.specs.Reading.{Reading, fresh_to, text_left}
 use Rattle.si_causes.specs.Text.{lines_left}
-use Rattle.si_causes.specs.Opening.{Files, TakesBack, file_at}
+use Rattle.si_causes.specs.Opening.{Files, file_at}
 use Rattle.si_causes.specs.declared.stop.ReadStop.TheVariants.{Failed, TooLong as Overlong}
 use Rattle.mux_model.specs.declared.mux.Mux.{Mux}
 use Rattle.input_lines.specs.Ahead.{Stop, ahead, ahead_in}
@@ -12,12 +12,11 @@ use Rattle.desk_checkpoint.specs.declared.start.Start.{Start}
 use Rattle.desk_checkpoint.specs.declared.start.CheckStop.{CheckStop}
 use Rattle.desk_checkpoint.specs.declared.start.CheckStop.TheVariants.{Line, Read, Memory as NoMemory}
 use Rattle.desk_checkpoint.specs.Checkpoints.{Checkpoint}
-use Rattle.desk_checkpoint.specs.Starts.{GivesStart, HasCheckCause}
+use Rattle.desk_checkpoint.specs.Starts.{GivesStart}
 use Rattle.epg_report.specs.declared.status.Status.{Status}
 use Rattle.epg_report.specs.declared.status.Status.TheVariants.{BadCheckpoint, Memory, OpenFault, ReadFault, TooLong as PastLimit}
 use Rattle.epg_report.specs.declared.status.Origin.TheVariants.{Input, Feed, Recording}
-use Rattle.epg_report.proofs.Asking.{some_fault}
-use Rattle.epg_play.specs.Beginning.{BeginsAt, BeginsWith, HasFileCause, HasOpenCause, IsNotBegun, IsRefused, check_status}
+use Rattle.epg_play.specs.Beginning.{BeginsAt, BeginsWith, HasOpenCause, IsNotBegun, IsRefused, check_status}
 use Rattle.epg_play.specs.Checkpointed.{checkpoint_limit, checkpoint_of}
 
 -- ---- a reader at the front of a file
@@ -39,18 +38,6 @@ refused_with found (Read Overlong) gives = gives
 refused_with found (Read Failed) gives = tt
 refused_with found NoMemory gives = tt
 
-pub refused_known : (stop : CheckStop) → IsRefused (check_status stop)
-refused_known (Line n) = tt
-refused_known (Read Overlong) = tt
-refused_known (Read Failed) = tt
-refused_known NoMemory = tt
-
-pub refused_caused : (before now : ℕ) (stop : CheckStop) → HasCheckCause {T = Start} before now (Err stop) → HasFileCause before now (Err (check_status stop))
-refused_caused before now (Line n) cause = tt
-refused_caused before now (Read Overlong) cause = tt
-refused_caused before now (Read Failed) cause = cause
-refused_caused before now NoMemory cause = tt
-
 -- ---- at a path
 
 pub begins_at : (path : List ℕ) (files : Files) (mux : Mux) (bytes : List ℕ) (result : Result Start Status) → file_at path files ≡ Some bytes → BeginsWith (checkpoint_of mux bytes) result → BeginsAt path files mux result
@@ -65,14 +52,6 @@ begins_at path files mux bytes (Err (ReadFault Input)) file begins = absurd begi
 begins_at path files mux bytes (Err (ReadFault (Feed f))) file begins = absurd begins
 begins_at path files mux bytes (Err Memory) file begins = tt
 begins_at path files mux bytes (Err other) file begins = absurd begins
-
--- the opener counts a read that failed
-pub file_caused : (failed before now : ℕ) (result : Result Start Status) → HasFileCause 0 failed result → TakesBack failed before now → HasFileCause before now result
-file_caused failed before now (Ok start) cause back = tt
-file_caused failed before now (Err (ReadFault Recording)) cause back = back.rose (some_fault failed cause)
-file_caused failed before now (Err (ReadFault Input)) cause back = tt
-file_caused failed before now (Err (ReadFault (Feed f))) cause back = tt
-file_caused failed before now (Err other) cause back = tt
 
 -- a file that was opened is no file that was not
 pub known_at : (result : Result Start Status) → IfErr result IsRefused → IfErr result IsNotBegun

@@ -9,7 +9,7 @@ use Rattle.input_lines.proofs.Steps.{handed_none, handed_more, whole_more}
 use Rattle.mux_model.specs.declared.mux.Mux.{Mux}
 use Rattle.input_lines.specs.declared.stop.EditStop.{EditStop}
 use Rattle.input_lines.specs.declared.stop.EditStop.TheVariants as edits
-use Rattle.input_lines.specs.Ahead.{Ahead, Tail, Came, Stopped, ahead}
+use Rattle.input_lines.specs.Ahead.{Ahead, Came, Stopped, ahead}
 use Rattle.input_lines.specs.Ahead as reading
 use Rattle.input_lines.specs.Reads.{Passes, Leaves, Gives, GivesNext, Takes, Faulted, ahead_with}
 use Rattle.journal_model.specs.declared.step.Step.{Step}
@@ -25,13 +25,13 @@ use Rattle.script_lines.specs.Script.{asked_by, first_script_item, items_ahead, 
 use Rattle.script_lines.proofs.ItemsAhead.{items_step, items_kept, items_stop}
 use Rattle.journal_air.specs.OnAir.{and_step}
 use Rattle.epg_play.specs.declared.stop.PlayStop.{PlayStop}
-use Rattle.journal_air.specs.OnAir.{HasAired, AiredTo as OnAirTo}
+use Rattle.journal_air.specs.OnAir.{HasAired, AiredTo as OnAirTo, HasAirCause as HasSendCause}
 use Rattle.journal_air.specs.declared.send.SendStop.{SendStop}
 use Rattle.journal_air.specs.declared.send.SendStop.TheVariants as send
 use Rattle.cycle_player.specs.Sending.{Sending}
 use Rattle.epg_play.specs.declared.stop.PlayStop.TheVariants.{NoMux, NoCommand as Refused, Disagrees, Read, Air, Memory}
 use Rattle.epg_play.specs.Script.{Stop, Ended, NoCommand, Disagreed, TooLong, Unread, commands_of, difference, first_difference, first_of, stop_of, up_to}
-use Rattle.epg_play.specs.Played.{AiredTo, HasAirCause, HasReadCause, IsBehindMux, IsDifference, PlayedWhole, RestDid, RestTaken, course_of, desk_after, late_difference, played_raised, read_stop, send_stop, unless_late}
+use Rattle.epg_play.specs.Played.{AiredTo, HasAirCause, HasReadCause, IsDifference, IsItemStop, IsStopBehind, PlayedWhole, RestDid, RestTaken, course_of, desk_after, late_difference, played_raised, read_stop, send_stop, unless_late}
 use Rattle.air_model.specs.Air.{Aired}
 use Rattle.journal_model.specs.Raising.{all_raised, raised}
 use Rattle.epg_play.specs.Items.{AreDone, ItemDid, Stops, Went, course_at}
@@ -239,15 +239,6 @@ module _ (shift : ℕ) where
   stopped_aired earlier old desk player before now Air did has = absurd did
   stopped_aired earlier old desk player before now Memory did has = tt
 
-  -- and no such stop is the air's
-  pub stopped_no_air : (old desk : DeskState) (faults later : ℕ) (stop : PlayStop) → ItemDid old desk (Err stop) → HasAirCause {T = Unit {0}} faults later (Err stop)
-  stopped_no_air old desk faults later (NoMux fault) did = absurd did
-  stopped_no_air old desk faults later (Refused n) did = tt
-  stopped_no_air old desk faults later (Disagrees n kept found) did = tt
-  stopped_no_air old desk faults later (Read stop) did = tt
-  stopped_no_air old desk faults later Air did = absurd did
-  stopped_no_air old desk faults later Memory did = tt
-
   -- the cycle of a swap was not sent whole
   pub cut_stop : {S : Type 0} (left : S → Known) (old now : Reading S) (before desk : DeskState) (made : Option Outcome) (stop : SendStop) → Went shift left old now before desk made
       → Stops shift left old now before desk (Err (send_stop stop))
@@ -283,24 +274,24 @@ module _ (shift : ℕ) where
   taken left faults old now new before desk after made (edits.NoCommand n) e w f = tt
   taken left faults old now new before desk after made edits.Memory e w f = tt
 
-  -- a stop by a failed read has its cause
-  pub read_caused : {S : Type 0} (left : S → Known) (faults : S → ℕ) (old now new : Reading S) (after : Bool) (stop : EditStop) → faults old.source ≤ faults now.source → Takes {T = ScriptItem} left faults (first_script_item after) now new (Err stop)
-      → HasReadCause {T = Unit {0}} (faults old.source) (faults new.source) (Err (read_stop stop))
-  read_caused left faults old now new after (edits.Read Failed) le f = Rose-from _ _ _ le f.cause
-  read_caused left faults old now new after (edits.Read Overlong) le f = tt
-  read_caused left faults old now new after (edits.NoCommand n) le f = tt
-  read_caused left faults old now new after edits.Memory le f = tt
-
 -- ---- which stops come behind the description
 
-pub item_behind : (old new : DeskState) (stop : PlayStop) → ItemDid old new (Err stop) → IsBehindMux stop
-item_behind old new (NoMux fault) did = did
-item_behind old new (Refused n) did = tt
-item_behind old new (Disagrees n kept found) did = tt
-item_behind old new (Read stop) did = tt
-item_behind old new Air did = tt
-item_behind old new Memory did = tt
+pub item_behind : (stop : PlayStop) → IsItemStop stop → IsStopBehind stop
+item_behind Air is = absurd is
+item_behind other is = is
 
-pub sent_behind : (stop : SendStop) → IsBehindMux (send_stop stop)
+pub item_no_air : (before now : ℕ) (stop : PlayStop) → IsItemStop stop → HasAirCause {T = Unit {0}} before now (Err stop)
+item_no_air before now Air is = absurd is
+item_no_air before now other is = tt
+
+pub sent_behind : (stop : SendStop) → IsStopBehind (send_stop stop)
 sent_behind send.Air = tt
 sent_behind send.Memory = tt
+
+pub sent_no_read : (before now : ℕ) (stop : SendStop) → HasReadCause {T = Unit {0}} before now (Err (send_stop stop))
+sent_no_read before now send.Air = tt
+sent_no_read before now send.Memory = tt
+
+pub sent_caused : (before mid now : ℕ) (stop : SendStop) → before ≤ mid → HasSendCause mid now (Err stop) → HasAirCause {T = Unit {0}} before now (Err (send_stop stop))
+sent_caused before mid now send.Air le cause = Rose-from before mid now le cause
+sent_caused before mid now send.Memory le cause = tt

@@ -3,7 +3,7 @@ use Rattle.std.proofs.Common.{◌≡◌, ◌≤◌, ℕ, Bool, true, List, [], �
 use Rattle.std.specs.Prelude.{Option, Some, None, Ok, Err, Result}
 use Rattle.std.specs.Io.KnownBytes.{Appends, IsAtEnd}
 use Rattle.si_causes.proofs.CauseFacts.{Appends-nothing}
-use Rattle.si_causes.specs.Causes.{AppendsFront, Rose}
+use Rattle.si_causes.specs.Causes.{Rose}
 use Rattle.si_causes.specs.Opening.{Files, Tries, file_at}
 use Rattle.si_causes.specs.declared.stop.ReadStop.TheVariants.{Failed, TooLong as Overlong}
 use Rattle.input_lines.specs.Ahead.{Ahead, Came, End, Found, NoCommand as NoLine, Stop as LineStop, Stopped, TooLong as PastEnd, Unread as Broken}
@@ -34,13 +34,13 @@ use Rattle.epg_report.proofs.Asking.{asked_memory}
 use Rattle.epg_play.specs.declared.stop.PlayStop.{PlayStop}
 use Rattle.epg_play.specs.declared.stop.PlayStop.TheVariants.{NoMux as Undescribed, NoCommand as Refused, Disagrees as Differs, Read, Air as OnAir, Memory as NoMemory}
 use Rattle.epg_play.specs.Leaves.{Completes, IsOfPlay}
-use Rattle.epg_play.specs.Played.{course}
+use Rattle.epg_play.specs.Played.{DeskDid, course}
 use Rattle.epg_play.specs.Script.{Stop, NoMux, script_with, script_within}
 use Rattle.epg_play.specs.declared.played.Course.{Course}
 use Rattle.epg_play.specs.declared.played.Played.{Played}
 use Rattle.epg_play.specs.Beginning.{BeginsAt, IsNew, IsNotBegun, IsOfResume}
 use Rattle.epg_play.specs.Checkpointed.{HasRun, IsCheckpoint, checkpoint_limit, checkpoint_of}
-use Rattle.epg_play.specs.Courses.{BeganAt, BegunFrom, CourseBehind, DeskDid, Finished, IsMetByResume, IsMetByScript, NotPlayed, PlayedNew, PlayedResumed, met_by, played_text}
+use Rattle.epg_play.specs.Courses.{BeganAt, BegunFrom, CourseBehind, EndsAs, Finished, IsMetByResume, IsMetByScript, IsPlayedText, NotPlayed, PlayedNew, PlayedResumed, met_by}
 use Rattle.epg_play.specs.Behind.{LeavesBehind}
 use Rattle.epg_play.specs.CheckpointRuns.{Begins, FoldRunWithin, Nothing, NothingAsked, ResumeRunWithin, Resumes, Tells, course_on}
 use Rattle.epg_play.specs.Over.{LeavesBy, LeavesOver, described_within}
@@ -61,7 +61,7 @@ pub finished_as : (fold : Bool) (played : Played) (report : ReportTaken) (status
 finished_as fold played report status (inl memory) = inl memory
 finished_as fold played report status (inr e) = by (or_cases played.met) e.reported
   where
-    by : (played.met ≡ Done) ⊎ (or_report played.met ≡ played.met) → ReportEnds played.met (played_text fold played.course played.met) report status
+    by : (played.met ≡ Done) ⊎ (or_report played.met ≡ played.met) → ReportEnds played.met e.text report status
         → (status ≡ Memory) ⊎ ((status ≡ played.met) ⊎ ((played.met ≡ Done) × (status ≡ WriteFault Report) × Rose report.faults_old report.faults_new))
     by own (inl (took, is)) = inr (inl is)
     by (inl done) (inr (rose, front, is)) = inr (inr (done, is ∙ ap or_report done, rose))
@@ -97,10 +97,10 @@ module _ (fold : Bool) (played : Played) (report : ReportTaken) (status : Status
 -- ---- over a text
 
 -- where nothing was played, the report is the line of the fault
-idle_reported : (fold : Bool) (course : Option Course) (met : Status) (report : ReportTaken) → course ≡ None
-    → Appends report.old report.new (played_text fold course met ++ fault_lines met) ⊎ (Rose report.faults_old report.faults_new × AppendsFront report.old report.new (played_text fold course met ++ fault_lines met))
-    → Reported report (fault_lines met)
-idle_reported fold course met report none took = subst (λ (c : Option Course). Appends report.old report.new (played_text fold c met ++ fault_lines met) ⊎ (Rose report.faults_old report.faults_new × AppendsFront report.old report.new (played_text fold c met ++ fault_lines met))) none took
+idle_reported : (fold : Bool) (course : Option Course) (met : Status) (report : ReportTaken) (text : List ℕ) → course ≡ None → IsPlayedText fold course met text
+    → Reported report (text ++ fault_lines met) → Reported report (fault_lines met)
+idle_reported fold course met report text none is took =
+    subst (λ (t : List ℕ). Reported report (t ++ fault_lines met)) (subst (λ (c : Option Course). IsPlayedText fold c met text) none is) took
 
 nothing_of : (air report : ReportTaken) (status : Status) → air.new ≡ air.old → Reported report (fault_lines status) → Nothing air report status
 nothing_of air report status same took = (subst (λ (w : Option (List ℕ)). Appends air.old w []) (sym same) (Appends-nothing air.old), took)
@@ -110,30 +110,31 @@ module _ (limit : ℕ) (fold : Bool) (report : ReportTaken) (played : Played) (I
     (idle : (met : Status) → Idle met → (played.course ≡ None) × (Reported report (fault_lines met) → Left met))
     (behind : (mux : Mux) (lines : Ahead) (status : Status) → AreDescribed mux lines → B mux lines played.met → Finished fold played report status → B2 mux lines status) where
   -- the status is the one that was met
-  same_over : (text : List ℕ) (left : Option (List ℕ)) → Finished fold played report played.met
-      → Appends report.old report.new (played_text fold played.course played.met ++ fault_lines played.met)
-      ⊎ (Rose report.faults_old report.faults_new × AppendsFront report.old report.new (played_text fold played.course played.met ++ fault_lines played.met))
+  same_over : (text : List ℕ) (left : Option (List ℕ)) → (e : EndsAs fold played.course played.met report played.met) → Reported report (e.text ++ fault_lines played.met)
       → LeavesOver limit Idle B text left played.met → LeavesOver limit Left B2 text left played.met
-  same_over text left finished took over =
-      over_same Idle Left B B2 limit text left played.met (λ mux lines is b. behind mux lines played.met is b finished)
-      (λ i. (idle played.met i).1 (idle_reported fold played.course played.met report (idle played.met i).0 took)) over
+  same_over text left e took over =
+      over_same Idle Left B B2 limit text left played.met (λ mux lines is b. behind mux lines played.met is b (inr e))
+      (λ i. (idle played.met i).1 (idle_reported fold played.course played.met report e.text (idle played.met i).0 e.text_is took)) over
 
   pub ended_over : (text : List ℕ) (left : Option (List ℕ)) (status : Status) → LeavesOver limit Idle B text left played.met → Finished fold played report status → LeavesOver limit Left B2 text left status
   ended_over text left status over (inl memory) = subst (LeavesOver limit Left B2 text left) (sym memory) tt
   ended_over text left status over (inr e) = by (or_cases played.met) e.reported
     where
-      by : (played.met ≡ Done) ⊎ (or_report played.met ≡ played.met) → ReportEnds played.met (played_text fold played.course played.met) report status → LeavesOver limit Left B2 text left status
+      ends : (s : Status) → ReportEnds played.met e.text report s → EndsAs fold played.course played.met report s
+      ends s reported = record { text = e.text; text_is = e.text_is; reported = reported; handed = e.handed }
+
+      by : (played.met ≡ Done) ⊎ (or_report played.met ≡ played.met) → ReportEnds played.met e.text report status → LeavesOver limit Left B2 text left status
       by own (inl (took, is)) =
           subst (LeavesOver limit Left B2 text left) (sym is)
-          (same_over text left (inr (record { reported = inl (took, refl); handed = e.handed })) (inl took) over)
+          (same_over text left (ends played.met (inl (took, refl))) (inl took) over)
       by (inl done) (inr (rose, front, is)) =
           subst (LeavesOver limit Left B2 text left) (sym (is ∙ ap or_report done))
           (over_done Idle Left B B2 limit text left
-          (λ mux lines d b. behind mux lines (WriteFault Report) d (subst (B mux lines) (sym done) b) (inr (record { reported = inr (rose, front, sym (ap or_report done)); handed = e.handed })))
+          (λ mux lines d b. behind mux lines (WriteFault Report) d (subst (B mux lines) (sym done) b) (inr (ends (WriteFault Report) (inr (rose, front, sym (ap or_report done))))))
           (subst (LeavesOver limit Idle B text left) done over))
       by (inr own) (inr (rose, front, is)) =
           subst (LeavesOver limit Left B2 text left) (sym (is ∙ own))
-          (same_over text left (inr (record { reported = inr (rose, front, sym own); handed = e.handed })) (inr (rose, front)) over)
+          (same_over text left (ends played.met (inr (rose, front, sym own))) (inr (rose, front)) over)
 
 -- ---- a head-end that did nothing yet
 
@@ -157,7 +158,7 @@ new_run mux lines (from, is) =
       clock = no_clock mux.rate;
     }
 
-new_behind : (fold : Bool) (air report : ReportTaken) (played : Played) (mux : Mux) (lines : Ahead) (status : Status) → AreDescribed mux lines → CourseBehind (IsNew mux) air.old air.new played lines
+new_behind : (fold : Bool) (air report : ReportTaken) (played : Played) (mux : Mux) (lines : Ahead) (status : Status) → AreDescribed mux lines → CourseBehind fold (IsNew mux) air.old air.new played lines
     → Finished fold played report status → LeavesBehind fold mux [] [] air report lines status
 new_behind fold air report played mux lines status is c finished =
     let run = new_run mux lines is in
@@ -220,13 +221,13 @@ pub record NewRun (limit : ℕ) (fold : Bool) (input : SourceGave) (air report :
   pub air_cause : status ≡ WriteFault Air → Rose air.faults_old air.faults_new
   pub report_cause : status ≡ WriteFault Report → Rose report.faults_old report.faults_new
 
-pub ran_new : (limit : ℕ) (fold : Bool) (input : SourceGave) (air report : ReportTaken) (played : Played) (status : Status) → ((text : List ℕ) → input.old ≡ Some text → PlayedNew limit text input.new air.old air.new played)
+pub ran_new : (limit : ℕ) (fold : Bool) (input : SourceGave) (air report : ReportTaken) (played : Played) (status : Status) → ((text : List ℕ) → input.old ≡ Some text → PlayedNew fold limit text input.new air.old air.new played)
     → IsMetByScript played.met → (played.met ≡ Done → IsAtEnd input.new) → (played.met ≡ ReadFault Input → Rose input.faults_old input.faults_new) → (played.met ≡ WriteFault Air → Rose air.faults_old air.faults_new)
     → Finished fold played report status → NewRun limit fold input air report status
 ran_new limit fold input air report played status over known end input_rose air_rose finished =
     let leaves = λ (text : List ℕ) (tells : input.old ≡ Some text).
     ended_over limit fold report played (λ met. NotPlayed air.old air.new played) (Nothing air report)
-    (λ mux lines met. CourseBehind (IsNew mux) air.old air.new played lines) (λ mux. LeavesBehind fold mux [] [] air report)
+    (λ mux lines met. CourseBehind fold (IsNew mux) air.old air.new played lines) (λ mux. LeavesBehind fold mux [] [] air report)
     (λ met idle. (idle.no_course, nothing_of air report met idle.air))
     (λ mux lines s is c f. new_behind fold air report played mux lines s is c f) text input.new status (over text tells) finished in
     let is_known : IsOfPlay status = known_by fold played report status finished IsOfPlay tt tt (script_known played.met known) in
@@ -326,23 +327,23 @@ module _ (path : List ℕ) (files : Files) (fold : Bool) (air report : ReportTak
   done_tells : OnFile Done → OnFile (WriteFault Report)
   done_tells on = record { bytes = on.bytes; file = on.file; is = (on.is.0, on.is.1, on.is.2) }
 
-  on_file : (played : Played) (c : CourseBehind (BeganAt path files mux) air.old air.new played lines) → OnFile (met_by c.stop)
+  on_file : (played : Played) (c : CourseBehind fold (BeganAt path files mux) air.old air.new played lines) → OnFile (met_by c.on.stop)
   on_file played c =
       let at = c.begins.begins in
       let starts = at.is.2 in
-      let desk_did = subst (λ (d : DeskState). DeskDid (course c.start.shift d.mux d.entries None lines) d c.behind.end.desk c.stop) starts.desk c.did in
-      let did = subst (λ (n : ℕ). DeskDid (course n at.is.0.desk.mux at.is.0.desk.entries None lines) at.is.0.desk c.behind.end.desk c.stop) starts.shift desk_did in
-      record { bytes = at.bytes; file = at.file; is = (at.is.0, at.is.1, tells_stop (course_on at.is.0 lines) at.is.0.desk c.behind.end.desk c.stop did) }
+      let desk_did = subst (λ (d : DeskState). DeskDid (course c.start.shift d.mux d.entries None lines) d c.on.left.now c.on.stop) starts.desk c.did in
+      let did = subst (λ (n : ℕ). DeskDid (course n at.is.0.desk.mux at.is.0.desk.entries None lines) at.is.0.desk c.on.left.now c.on.stop) starts.shift desk_did in
+      record { bytes = at.bytes; file = at.file; is = (at.is.0, at.is.1, tells_stop (course_on at.is.0 lines) at.is.0.desk c.on.left.now c.on.stop did) }
 
-  course_begins : (played : Played) (c : CourseBehind (BeganAt path files mux) air.old air.new played lines) (status : Status) → Finished fold played report status → Begins path files (Nothing air report) mux lines status
+  course_begins : (played : Played) (c : CourseBehind fold (BeganAt path files mux) air.old air.new played lines) (status : Status) → Finished fold played report status → Begins path files (Nothing air report) mux lines status
   course_begins played c status finished = by (finished_as fold played report status finished)
     where
       by : (status ≡ Memory) ⊎ ((status ≡ played.met) ⊎ ((played.met ≡ Done) × (status ≡ WriteFault Report) × Rose report.faults_old report.faults_new)) → Begins path files (Nothing air report) mux lines status
       by (inl memory) = subst (Begins path files (Nothing air report) mux lines) (sym memory) tt
-      by (inr (inl is)) = subst (Begins path files (Nothing air report) mux lines) (sym (is ∙ c.met)) (begins_by c.stop (on_file played c))
-      by (inr (inr (done, is, rose))) = subst (Begins path files (Nothing air report) mux lines) (sym is) (done_tells (subst OnFile (sym c.met ∙ done) (on_file played c)))
+      by (inr (inl is)) = subst (Begins path files (Nothing air report) mux lines) (sym (is ∙ c.on.met)) (begins_by c.on.stop (on_file played c))
+      by (inr (inr (done, is, rose))) = subst (Begins path files (Nothing air report) mux lines) (sym is) (done_tells (subst OnFile (sym c.on.met ∙ done) (on_file played c)))
 
-  course_goes_on : (played : Played) (c : CourseBehind (BeganAt path files mux) air.old air.new played lines) (status : Status) → Finished fold played report status
+  course_goes_on : (played : Played) (c : CourseBehind fold (BeganAt path files mux) air.old air.new played lines) (status : Status) → Finished fold played report status
       → (journal : List Entry) (earlier : List Aired) (bytes : List ℕ) → file_at path files ≡ Some bytes → length bytes ≤ checkpoint_limit → HasRun mux journal earlier → IsCheckpoint mux journal earlier bytes
       → LeavesBehind fold mux journal earlier air report lines status
   course_goes_on played c status finished journal earlier bytes file le run is =
@@ -354,7 +355,7 @@ module _ (path : List ℕ) (files : Files) (fold : Bool) (air report : ReportTak
       leaves_behind fold mux (shift_of (publishes journal)) journal (folded mux journal) earlier (folded_base mux journal sound legal) run air report lines (BeganAt path files mux) played c from.desk from.shift
       (begun_aired earlier c.start air.old none from.player player_of) (begun_tallied c.start none c.begins.is.tally) status finished
 
-  resumed_behind : (opener : OpenerAsked) → Tries opener.tried_old opener.tried_new path → (played : Played) (status : Status) → BegunFrom path files air.old air.new played mux lines played.met
+  resumed_behind : (opener : OpenerAsked) → Tries opener.tried_old opener.tried_new path → (played : Played) (status : Status) → BegunFrom fold path files air.old air.new played mux lines played.met
       → Finished fold played report status → Resumes path files fold opener air report mux lines status
   resumed_behind opener tried played status (inr c) finished = record { asked = tried; begins = course_begins played c status finished; goes_on = course_goes_on played c status finished }
   resumed_behind opener tried played status (inl (at, known, idle)) (inl memory) =
@@ -364,11 +365,11 @@ module _ (path : List ℕ) (files : Files) (fold : Bool) (air report : ReportTak
       there : Reported report (fault_lines played.met) → Resumes path files fold opener air report mux lines played.met
       there took = not_begun opener tried played.met at known (nothing_of air report played.met idle.air took)
 
-      by : (played.met ≡ Done) ⊎ (or_report played.met ≡ played.met) → ReportEnds played.met (played_text fold played.course played.met) report status → Resumes path files fold opener air report mux lines status
+      by : (played.met ≡ Done) ⊎ (or_report played.met ≡ played.met) → ReportEnds played.met e.text report status → Resumes path files fold opener air report mux lines status
       by (inl done) ends = absurd (not_done played.met known done)
-      by (inr own) (inl (took, is)) = subst (Resumes path files fold opener air report mux lines) (sym is) (there (idle_reported fold played.course played.met report idle.no_course (inl took)))
+      by (inr own) (inl (took, is)) = subst (Resumes path files fold opener air report mux lines) (sym is) (there (idle_reported fold played.course played.met report e.text idle.no_course e.text_is (inl took)))
       by (inr own) (inr (rose, front, is)) =
-          subst (Resumes path files fold opener air report mux lines) (sym (is ∙ own)) (there (idle_reported fold played.course played.met report idle.no_course (inr (rose, front))))
+          subst (Resumes path files fold opener air report mux lines) (sym (is ∙ own)) (there (idle_reported fold played.course played.met report e.text idle.no_course e.text_is (inr (rose, front))))
 
   -- where nothing fails and the file holds a checkpoint, the script on it decides
   on_checkpoint : (bytes : List ℕ) (cp : Checkpoint) (status : Status) → file_at path files ≡ Some bytes → checkpoint_of mux bytes ≡ Ok cp → OnFile status → Tells (course_on cp lines).1 status
@@ -435,7 +436,7 @@ resume_asked path old new fold played report status asked finished = by (finishe
 
 pub resume_run : (limit : ℕ) (path : List ℕ) (fold : Bool) (opener : OpenerAsked) (input : SourceGave) (air report : ReportTaken) (played : Played) (status : Status)
     → ((text : List ℕ) → input.old ≡ Some text → (files : Files) → opener.files ≡ Some files
-    → PlayedResumed limit path files text input.new opener.tried_old opener.tried_new air.old air.new played)
+    → PlayedResumed fold limit path files text input.new opener air.old air.new played)
     → IsMetByResume played.met → HasAskedFor path opener.tried_old opener.tried_new played.met → (played.met ≡ Done → IsAtEnd input.new)
     → (played.met ≡ ReadFault Input → Rose input.faults_old input.faults_new) → ((n : ℕ) → played.met ≡ OpenFault n → Rose opener.faults_old opener.faults_new)
     → (played.met ≡ ReadFault Recording → Rose opener.read_old opener.read_new) → (played.met ≡ WriteFault Air → Rose air.faults_old air.faults_new)
@@ -443,7 +444,7 @@ pub resume_run : (limit : ℕ) (path : List ℕ) (fold : Bool) (opener : OpenerA
 resume_run limit path fold opener input air report played status over known asked end input_rose open_rose read_rose air_rose finished =
     let leaves = λ (text : List ℕ) (tells : input.old ≡ Some text) (files : Files) (has : opener.files ≡ Some files).
     ended_over limit fold report played (λ met. (opener.tried_new ≡ opener.tried_old) × NotPlayed air.old air.new played) (NothingAsked opener air report)
-    (λ mux lines met. Tries opener.tried_old opener.tried_new path × BegunFrom path files air.old air.new played mux lines met)
+    (λ mux lines met. Tries opener.tried_old opener.tried_new path × BegunFrom fold path files air.old air.new played mux lines met)
     (Resumes path files fold opener air report)
     (λ met idle. (idle.1.no_course, λ took. (idle.0, nothing_of air report met idle.1.air took)))
     (λ mux lines s is b f. resumed_behind path files fold air report mux lines opener b.0 played s b.1 f) text input.new status (over text tells files has) finished in

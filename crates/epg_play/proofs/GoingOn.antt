@@ -1,6 +1,6 @@
 -- A script that is played at a desk which goes on as a journal does is played as behind that journal.
 use Rattle.std.proofs.Common.{◌≡◌, ◌+◌, ◌<◌, ◌^◌, ℕ, false, List, [], ◌∷◌, ◌++◌, length, sym, ap, ◌∙◌, subst, inl, inr, ◌⊎◌}
-use Rattle.std.specs.Prelude.{Option, None, drop}
+use Rattle.std.specs.Prelude.{Option, None}
 use Rattle.std.specs.List.{AllByRecursion}
 use Rattle.std.proofs.lemmas.List.{append_cancel_left, map-append}
 use Rattle.std.proofs.Math.Seq.{drop-append_seam}
@@ -77,10 +77,9 @@ module _ (mux : Mux) (shift : ℕ) (journal short : List Entry) (base : IsBase m
       ap (λ (l : List Entry). up_to (first_difference asked l) (commands_of asked) (stop_of (items_ahead false lines).1)) (replies (commands_of asked))
 
   -- the entries that were made
-  pub made_same : (end : DeskState) (commands : List Command) → end ≡ desk_after (desk_with mux short) commands → all_raised shift (drop (length short) end.entries) ≡ more commands
-  made_same end commands did =
-      ap (λ (d : DeskState). all_raised shift (drop (length short) d.entries)) did
-      ∙ ap (all_raised shift) (drop-append_seam short (new commands))
+  pub made_same : (end : DeskState) (commands : List Command) (made : List Entry) → end ≡ desk_after (desk_with mux short) commands → end.entries ≡ short ++ made → all_raised shift made ≡ more commands
+  made_same end commands made did entries =
+      ap (all_raised shift) (append_cancel_left short made (new commands) (sym entries ∙ ap (λ (d : DeskState). d.entries) did))
       ∙ replies commands
 
   -- ---- the air
@@ -230,5 +229,7 @@ module _ (mux : Mux) (shift : ℕ) (journal short : List Entry) (base : IsBase m
   pub within_on : (end : DeskState) (commands : List Command) → end ≡ desk_after (desk_with mux short) commands → AllByRecursion (λ (entry : Entry). IsStepWithin entry.step) end.entries
       → AllByRecursion (λ (entry : Entry). IsStepWithin entry.step) (more commands)
   within_on end commands did within =
-      subst (AllByRecursion (λ (entry : Entry). IsStepWithin entry.step)) (made_same end commands did)
-      (all_to_map (λ (entry : Entry). IsStepWithin entry.step) (raised_entry shift) (drop (length short) end.entries) (all_drop (λ (entry : Entry). IsStepWithin entry.step) (length short) end.entries within))
+      let Within = AllByRecursion (λ (entry : Entry). IsStepWithin entry.step) in
+      let all : Within (short ++ new commands) = subst Within (ap (λ (d : DeskState). d.entries) did) within in
+      let made : Within (new commands) = subst Within (drop-append_seam short (new commands)) (all_drop (λ (entry : Entry). IsStepWithin entry.step) (length short) (short ++ new commands) all) in
+      subst Within (replies commands) (all_to_map (λ (entry : Entry). IsStepWithin entry.step) (raised_entry shift) (new commands) made)

@@ -1,4 +1,3 @@
-pub mod WindowFacts
 pub mod RaiseFacts
 pub mod CourseFacts
 pub mod RunFacts
@@ -7,9 +6,10 @@ pub mod HearingFacts
 pub mod AgainFacts
 pub mod ReportFacts
 pub mod OutcomeFacts
-mod StopLines
 pub mod SentFacts
 mod TallyFacts
+mod DeskFacts
+pub mod RestFacts
 pub mod SentBehind
 pub mod GoingOn
 pub mod Bases
@@ -17,7 +17,6 @@ pub mod BehindFacts
 pub mod OverFacts
 pub mod ReadBack
 pub mod PlayedFacts
-pub mod WrittenFacts
 pub mod StopFacts
 pub mod CourseRuns
 pub mod BeginFacts

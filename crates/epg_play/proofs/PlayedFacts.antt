@@ -1,5 +1,5 @@
 -- What was played over the text of an input, from what reading it and playing it told.
-use Rattle.std.proofs.Common.{◌≡◌, ◌-◌, ℕ, List, ◌++◌, refl, sym, ap, ◌∙◌, subst, arith}
+use Rattle.std.proofs.Common.{◌≡◌, ◌-◌, ℕ, Bool, List, ◌++◌, refl, sym, ap, ◌∙◌, subst, arith}
 use Rattle.std.specs.Prelude.{Option, Some, None, Ok, Err, Result}
 use Rattle.std.specs.Io.KnownBytes.{Consumes}
 use Rattle.si_causes.specs.Reading.{Reading, fresh_to}
@@ -30,12 +30,12 @@ use Rattle.epg_play.specs.declared.stop.PlayStop.{PlayStop}
 use Rattle.epg_play.specs.declared.stop.PlayStop.TheVariants.{NoMux as Undescribed, NoCommand as Refused, Disagrees as Differs, Read, Air as OnAir, Memory as NoMemory}
 use Rattle.epg_play.specs.Leaves.{mux_stop}
 use Rattle.epg_play.specs.Leaves.{status_for}
-use Rattle.epg_play.specs.Played.{RestDid, RestTaken, course}
+use Rattle.epg_play.specs.Played.{DeskDid, RestDid, RestTaken, course}
 use Rattle.epg_play.specs.Script.{Stop}
 use Rattle.epg_play.proofs.RunFacts.{bytes_left}
 use Rattle.epg_play.specs.declared.played.Played.{Played}
 use Rattle.epg_play.specs.Beginning.{IsNotBegun}
-use Rattle.epg_play.specs.Courses.{CourseBehind, DeskDid, HasPlayedOn, met_by}
+use Rattle.epg_play.specs.Courses.{CourseBehind, HasPlayedOn, IsPlayed, met_by}
 use Rattle.epg_play.specs.Over.{LeavesBy, LeavesOver, described_within}
 
 -- ---- a reader that has read nothing of a text of which so many bytes may be taken
@@ -59,29 +59,19 @@ first_within limit left faults alike old new source text mux e told read =
 
 module _ {S : Type 0} (limit : ℕ) (left : S → Option (List ℕ)) (source : S) (mid new : Reading S) (text : List ℕ) (mux : Mux) (told : left source ≡ Some text)
     (d : LeavesAhead left description_ahead (Came (Ok mux)) (fresh_to limit source) mid text) (came : Passes left description_ahead (Came (Ok mux)) (fresh_to limit source) mid)
-    (start : Start) (Begins : Start → Type 0) (begins : Begins start) (before now : Option (List ℕ)) (played : Played) (on : HasPlayedOn left mid new start before now played)
-    (Idle : Status → Type 0) (B : Mux → Ahead → Status → Type 0) (wrap : (ls : Ahead) → CourseBehind Begins before now played ls → B mux ls played.met) where
+    (fold : Bool) (start : Start) (Begins : Start → Type 0) (begins : Begins start) (before now : Option (List ℕ)) (played : Played) (p : HasPlayedOn fold left mid new start before now played)
+    (Idle : Status → Type 0) (B : Mux → Ahead → Status → Type 0) (wrap : (ls : Ahead) → CourseBehind fold Begins before now played ls → B mux ls played.met) where
+  abbrev on : IsPlayed fold start before now played
+  on = p.on
+
   abbrev rest_of : Ahead → List Command × Stop
   rest_of ls = course start.shift start.desk.mux start.desk.entries None ls
 
   abbrev Did : Ahead → Result (Unit {0}) PlayStop → Type 0
-  Did ls r = DeskDid (rest_of ls) start.desk on.behind.end.desk r
+  Did ls r = DeskDid (rest_of ls) start.desk on.left.now r
 
-  course_by : (ls : Ahead) (r : Result (Unit {0}) PlayStop) → on.stop ≡ r → Did ls r → CourseBehind Begins before now played ls
-  course_by ls r e did = record {
-    start = start;
-    begins = begins;
-    behind = on.behind;
-    is = on.is;
-    folded = on.folded;
-    shift = on.shift;
-    stop = on.stop;
-    met = on.met;
-    within = on.within;
-    did = subst (Did ls) (sym e) did;
-    aired = on.aired;
-    tallied = on.tallied;
-  }
+  course_by : (ls : Ahead) (r : Result (Unit {0}) PlayStop) → on.stop ≡ r → Did ls r → CourseBehind fold Begins before now played ls
+  course_by ls r e did = record { start = start; begins = begins; on = on; did = subst (Did ls) (sym e) did }
 
   met_as : (r : Result (Unit {0}) PlayStop) → on.stop ≡ r → played.met ≡ met_by r
   met_as r e = on.met ∙ ap met_by e
@@ -91,11 +81,11 @@ module _ {S : Type 0} (limit : ℕ) (left : S → Option (List ℕ)) (source : S
       subst (λ (found : Found Description). LeavesBy Idle B found (met_by r)) (sym (described_first limit source text ∙ d.reads))
       (subst (B mux (ahead mid d.rest)) (met_as r e) (wrap (ahead mid d.rest) (course_by (ahead mid d.rest) r e did)))
 
-  did_by : (r : Result (Unit {0}) PlayStop) → on.stop ≡ r → RestDid (rest_of (ahead mid d.rest)) start.desk on.behind.end.desk r
-  did_by r e = subst (RestDid (rest_of (ahead mid d.rest)) start.desk on.behind.end.desk) e (on.did d.rest d.told)
+  did_by : (r : Result (Unit {0}) PlayStop) → on.stop ≡ r → RestDid (rest_of (ahead mid d.rest)) start.desk on.left.now r
+  did_by r e = subst (RestDid (rest_of (ahead mid d.rest)) start.desk on.left.now) e (p.stops.0 d.rest d.told)
 
-  taken_by : (r : Result (Unit {0}) PlayStop) → on.stop ≡ r → RestTaken start.shift left mid new start.desk on.behind.end.desk r
-  taken_by r e = subst (RestTaken start.shift left mid new start.desk on.behind.end.desk) e on.taken
+  taken_by : (r : Result (Unit {0}) PlayStop) → on.stop ≡ r → RestTaken start.shift left mid new start.desk on.left.now r
+  taken_by r e = subst (RestTaken start.shift left mid new start.desk on.left.now) e p.stops.1
 
   by : (r : Result (Unit {0}) PlayStop) → on.stop ≡ r → LeavesOver limit Idle B text (left new.source) (met_by r)
   by (Ok u) e = whole (Ok u) e (did_by (Ok u) e)
@@ -104,10 +94,10 @@ module _ {S : Type 0} (limit : ℕ) (left : S → Option (List ℕ)) (source : S
   by (Err (Differs n kept found)) e = whole (Err (Differs n kept found)) e (did_by (Err (Differs n kept found)) e)
   by (Err (Read Overlong)) e = whole (Err (Read Overlong)) e (did_by (Err (Read Overlong)) e)
   by (Err (Read Failed)) e =
-      let p = taken_by (Err (Read Failed)) e in
-      let both : WereWhole left (fresh_to limit source) new (came.looked.lines ++ p.lines) = whole_more left (fresh_to limit source) mid new came.looked.lines p.lines came.looked.handed p.unended p.whole in
-      let lines_are = ahead_with mid p.lines Breaks in
-      let is : described_taken both.more ≡ Came (Ok mux) lines_are = ap (λ l. description_ahead (ahead_with (fresh_to limit source) l Breaks)) both.whole ∙ came.reads p.lines Breaks in
+      let t = taken_by (Err (Read Failed)) e in
+      let both : WereWhole left (fresh_to limit source) new (came.looked.lines ++ t.lines) = whole_more left (fresh_to limit source) mid new came.looked.lines t.lines came.looked.handed t.unended t.whole in
+      let lines_are = ahead_with mid t.lines Breaks in
+      let is : described_taken both.more ≡ Came (Ok mux) lines_are = ap (λ l. description_ahead (ahead_with (fresh_to limit source) l Breaks)) both.whole ∙ came.reads t.lines Breaks in
       let b = bytes_left (left new.source) text both.more (subst (λ (o : Option (List ℕ)). Consumes o (left new.source) both.more) told both.gave) in
       record {
         taken = both.more;
@@ -115,7 +105,7 @@ module _ {S : Type 0} (limit : ℕ) (left : S → Option (List ℕ)) (source : S
         text_is = b.1;
         left_is = b.2;
         leaves = subst (λ (found : Found Description). LeavesBy Idle B found (ReadFault Input)) (sym is)
-            (subst (B mux lines_are) (met_as (Err (Read Failed)) e) (wrap lines_are (course_by lines_are (Err (Read Failed)) e (p.stop, p.did))));
+            (subst (B mux lines_are) (met_as (Err (Read Failed)) e) (wrap lines_are (course_by lines_are (Err (Read Failed)) e (t.stop, t.did))));
       }
   by (Err OnAir) e = whole (Err OnAir) e (did_by (Err OnAir) e)
   by (Err NoMemory) e = tt

@@ -1,5 +1,6 @@
 -- What playing the commands of a script leaves: the desk, and what the air took.
-use Rattle.std.specs.Prelude.{◌≡◌, ℕ, false, is_some, List, [], ◌++◌, take, Option, Some, None, Ok, Err, Result}
+use Rattle.std.specs.Prelude.{◌≡◌, ◌≤◌, ℕ, false, is_some, List, [], ◌++◌, take, Option, Some, None, Ok, Err, Result}
+use Rattle.std.specs.Io.KnownBytes.{IsAtEnd}
 use Rattle.si_causes.specs.Causes.{Rose}
 use Rattle.si_causes.specs.Reading.{Reading}
 use Rattle.si_causes.specs.declared.stop.ReadStop.TheVariants.{Failed, TooLong as Overlong}
@@ -59,15 +60,23 @@ abbrev pub HasReadCause : {T : Type 0} → ℕ → ℕ → Result T PlayStop →
 HasReadCause before now (Err (Read Failed)) = Rose before now
 HasReadCause before now result = Unit {0}
 
--- a script that goes on behind its description meets no fault of that
-abbrev pub IsBehindMux : PlayStop → Type 0
-IsBehindMux (Undescribed fault) = ⊥
-IsBehindMux stop = Unit {0}
+-- What reading left: an input that is at its end where the script is, a failed read that has its cause, and the same source.
+pub record HasRead {S T : Type 0} (left : S → Option (List ℕ)) (faults : S → ℕ) (alike : S → S → Type 0) (old new : S) (Ended : Type 0) (result : Result T PlayStop) : Type 0 where
+  pub end : Ended → IsAtEnd (left new)
+  pub cause : HasReadCause (faults old) (faults new) result
+  pub later : faults old ≤ faults new
+  pub same : alike old new
 
--- the outcomes of a disagreement can be written
-abbrev pub IsStopInWindow : PlayStop → Type 0
-IsStopInWindow (Disagrees n kept found) = IsInWindow kept × IsInWindow found
-IsStopInWindow stop = Unit {0}
+-- a stop of a script that goes on behind its description: no fault of that, and the outcomes of a disagreement can be written
+abbrev pub IsStopBehind : PlayStop → Type 0
+IsStopBehind (Undescribed fault) = ⊥
+IsStopBehind (Disagrees n kept found) = IsInWindow kept × IsInWindow found
+IsStopBehind stop = Unit {0}
+
+-- no item of it sends anything
+abbrev pub IsItemStop : PlayStop → Type 0
+IsItemStop Air = ⊥
+IsItemStop stop = IsStopBehind stop
 
 -- the stop of a call that reads
 abbrev pub read_stop : EditStop → PlayStop
@@ -110,16 +119,21 @@ course shift mux before made lines = course_of shift mux before made (items_ahea
 abbrev pub desk_after : DeskState → List Command → DeskState
 desk_after desk commands = record { mux = desk.mux; entries = desk.entries ++ journal_after desk.mux desk.entries commands }
 
--- what playing the rest of a script does to the desk
+-- What playing commands does to a desk, by why no more are played. Where a read failed, they are those of the lines that were whole.
+abbrev pub DeskDid : List Command × Stop → DeskState → DeskState → Result (Unit {0}) PlayStop → Type 0
+DeskDid rest old new (Ok u) = (rest.1 ≡ Ended) × (new ≡ desk_after old rest.0)
+DeskDid rest old new (Err (Undescribed fault)) = ⊥
+DeskDid rest old new (Err (Refused n)) = (rest.1 ≡ NoCommand n) × (new ≡ desk_after old rest.0)
+DeskDid rest old new (Err (Disagrees n kept found)) = (rest.1 ≡ Disagreed n kept found) × (new ≡ desk_after old rest.0)
+DeskDid rest old new (Err (Read Overlong)) = (rest.1 ≡ TooLong) × (new ≡ desk_after old rest.0)
+DeskDid rest old new (Err (Read Failed)) = (rest.1 ≡ Unread) × (new ≡ desk_after old rest.0)
+DeskDid rest old new (Err Air) = (k : ℕ) × (new ≡ desk_after old (take k rest.0))
+DeskDid rest old new (Err Memory) = Unit {0}
+
+-- so do those of all that is ahead, but where a read failed
 abbrev pub RestDid : List Command × Stop → DeskState → DeskState → Result (Unit {0}) PlayStop → Type 0
-RestDid rest old new (Ok u) = (rest.1 ≡ Ended) × (new ≡ desk_after old rest.0)
-RestDid rest old new (Err (Undescribed fault)) = ⊥
-RestDid rest old new (Err (Refused n)) = (rest.1 ≡ NoCommand n) × (new ≡ desk_after old rest.0)
-RestDid rest old new (Err (Disagrees n kept found)) = (rest.1 ≡ Disagreed n kept found) × (new ≡ desk_after old rest.0)
-RestDid rest old new (Err (Read Overlong)) = (rest.1 ≡ TooLong) × (new ≡ desk_after old rest.0)
 RestDid rest old new (Err (Read Failed)) = Unit {0}
-RestDid rest old new (Err Air) = (k : ℕ) × (new ≡ desk_after old (take k rest.0))
-RestDid rest old new (Err Memory) = Unit {0}
+RestDid rest old new result = DeskDid rest old new result
 
 -- A read failed: of the lines that were whole in the bytes taken all commands were played.
 pub record PlayedWhole {S : Type 0} (shift : ℕ) (left : S → Option (List ℕ)) (old new : Reading S) (desk after : DeskState) : Type 0 where

@@ -1,5 +1,5 @@
 // From what a run goes on.
-ghost use Rattle.std.specs.Prelude.{◌≡◌, ◌≤◌, List, ℕ, Some, IfErr, IfOk};
+ghost use Rattle.std.specs.Prelude.{◌≡◌, List, ℕ, Some, IfErr, IfOk};
 ghost use Rattle.si_causes.specs.Opening.{Files, Tries};
 ghost use Rattle.si_causes.specs.Reading.{fresh_to};
 ghost use Rattle.mux_model.specs.Sound.{IsSound};

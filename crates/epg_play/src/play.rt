@@ -1,18 +1,13 @@
 // The commands of a script, done one after the other.
-ghost use Rattle.std.specs.Prelude.{◌≡◌, ◌≤◌, ◌<◌, ◌^◌, [], List, ℕ, Option, None, Some, IfErr, OnOk};
-ghost use Rattle.std.specs.Io.KnownBytes.{IsAtEnd};
-ghost use Rattle.si_causes.specs.Reading.{text_left};
-ghost use Rattle.input_lines.specs.Ahead.{ahead};
-ghost use Rattle.air_model.specs.Air.{Aired};
-ghost use Rattle.desk_core.specs.Journal.{Legal};
-ghost use Rattle.journal_air.specs.OnAir.{HasAired, IsPlayerOf};
-ghost use Rattle.journal_air.specs.Tallied.{HasTallied};
-ghost use Rattle.epg_play.specs.Played.{AiredTo, HasAirCause, HasReadCause, IsBehindMux, IsStopInWindow, RestDid, RestTaken, TalliedTo, course, send_stop};
+ghost use Rattle.std.specs.Prelude.{◌≡◌, [], None, IfErr, Ok, OnOk};
+ghost use Rattle.desk_core.specs.Desks.{DeskState};
+ghost use Rattle.epg_play.specs.Courses.{CanPlay, PlaysRest};
+ghost use Rattle.epg_play.specs.Items.{IsAt, Stays};
+ghost use Rattle.epg_play.specs.Played.{HasAirCause, HasRead, IsStopBehind, send_stop};
 
 use crate::item::{ItemDone, do_item};
+use crate::played::Course;
 use crate::stop::PlayStop;
-use cycle_player::CyclePlayer;
-use desk_core::Desk;
 use journal_air::{SendStop, send_on_air};
 use si_causes::{LineReader, Sink, Source};
 use std::alloc::Global;
@@ -26,41 +21,30 @@ fn stop_of(stop: SendStop) -> PlayStop
     }
 }
 
-/// Does the commands that are left, up to the first line that is none, or that keeps another outcome than the desk's, whose publications
-/// have their numbers raised by the shift; each swap sends its cycle before the next line is read.
+/// Does the commands that are left, up to the first line that is none, or that keeps another outcome than the desk's; each swap sends its
+/// cycle before the next line is read.
 pub fn play_rest<S: Source, A: Sink>(
     alloc: Global,
     lines: &mut LineReader<S>,
-    desk: &mut Desk,
-    player: &mut CyclePlayer,
+    course: &mut Course,
     air: &mut A,
-    shift: u64,
 ) -> Result<(), PlayStop>
     requires going { lines.old.stop ≡ None }
-    requires at_end { player.old.left ≡ [] }
-    requires shift { shift < 10 ^ 18 }
-    requires legal { Legal desk.old.mux desk.old.entries }
-    ensures did { (text : List ℕ) → text_left S.left lines.old ≡ Some text → RestDid (course shift desk.old.mux desk.old.entries None (ahead lines.old text)) desk.old desk.new result }
-    ensures taken { RestTaken shift S.left lines.old lines.new desk.old desk.new result }
-    ensures aired { (earlier : List Aired) (before : Option (List ℕ)) → HasAired earlier desk.old player.old before (A.written air.old)
-        → AiredTo earlier desk.new player.new before (A.written air.new) result }
-    ensures tallied { IsPlayerOf desk.old.mux player.old → HasTallied desk.old player.old
-        → TalliedTo desk.new player.new result }
-    ensures ended { OnOk result (player.new.left ≡ []) }
-    ensures window { IfErr result IsStopInWindow }
-    ensures behind { IfErr result IsBehindMux }
-    ensures end { OnOk result (IsAtEnd (S.left lines.new.source)) }
-    ensures read_cause { HasReadCause (S.faults lines.old.source) (S.faults lines.new.source) result }
-    ensures air_cause { HasAirCause (A.faults air.old) (A.faults air.new) result }
-    ensures read_later { S.faults lines.old.source ≤ S.faults lines.new.source }
-    ensures air_later { A.faults air.old ≤ A.faults air.new }
-    ensures same { S.same lines.old.source lines.new.source }
+    requires ready { CanPlay course.old }
+    ensures plays { (before : DeskState) → IsAt before before course.old.desk
+        → PlaysRest S.left lines.old lines.new before course.old.player
+        (A.written air.old) (A.written air.new) course.new result }
+    ensures stays { Stays course.old.desk course.new.desk }
+    ensures ended { OnOk result (course.new.player.left ≡ []) }
+    ensures behind { IfErr result IsStopBehind }
+    ensures read { HasRead S.left S.faults S.same lines.old.source lines.new.source
+        (result ≡ Ok tt) result }
+    ensures cause { HasAirCause (A.faults air.old) (A.faults air.new) result }
 {
-    let mut made = None;
     'items: loop {
-        match do_item(alloc, lines, desk, &mut made, shift) {
+        match do_item(alloc, lines, &mut course.desk) {
             Ok(ItemDone::Swap) => {
-                if let Err(stop) = send_on_air(alloc, desk, player, air) {
+                if let Err(stop) = send_on_air(alloc, &course.desk.desk, &mut course.player, air) {
                     return Err(stop_of(stop));
                 }
             }

@@ -1,12 +1,13 @@
 // What was played.
-use desk_checkpoint::Start;
+use crate::desk::ScriptDesk;
+use cycle_player::CyclePlayer;
 use epg_report::Status;
 
-// A script that was played on from a start: the start as it is behind the script, and how many entries its desk had before.
+/// A script as far as it was played: its desk, and the player of its cycles.
 #[derive(Drop)]
-pub(crate) struct Course {
-    pub(crate) end: Start,
-    pub(crate) folded: usize,
+pub struct Course {
+    pub desk: ScriptDesk,
+    pub player: CyclePlayer,
 }
 
 // What a run did before its report: the course of its script, where one was begun, and the status that was met.

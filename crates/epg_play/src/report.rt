@@ -1,73 +1,51 @@
 // How a run ends: its report and its status.
-ghost use Rattle.std.specs.Prelude.{◌≡◌, ◌<◌, ◌^◌, ◌++◌, [], true, Some, IfOk, IfSome, OnOk};
-ghost use Rattle.std.specs.List.{AllByRecursion};
+ghost use Rattle.std.specs.Prelude.{◌≡◌, ◌++◌, true, Some, IfOk, IfSome, OnOk};
 ghost use Rattle.journal_text.specs.Entries.{journal_text};
-ghost use Rattle.journal_model.specs.Raising.{all_raised};
+ghost use Rattle.journal_model.specs.Steps.{AreInWindow};
 ghost use Rattle.desk_checkpoint.specs.HandedOver.{HandsOver};
-ghost use Rattle.epg_report.specs.Texts.{CanBeSaid, fault_lines};
+ghost use Rattle.epg_report.specs.Texts.{CanBeSaid};
 ghost use Rattle.epg_report.specs.Told.{told};
-ghost use Rattle.epg_play.specs.Courses.{CanBeWritten, Finished, HandedBy, IsCourse, course_text, is_done, made_entries, made_text, played_text};
+ghost use Rattle.epg_play.specs.Courses.{Appended, Finished, HandedBy, IsCourse, IsCourseText, IsReportText, is_done, made_text};
 
 use crate::played::{Course, Played};
-use desk_checkpoint::write_checkpoint;
+use desk_checkpoint::write_lean_checkpoint;
 use epg_report::{Status, ended, out_of_memory, put_fault_line, put_rate_line};
-use journal_model::{Entry, raise};
-use journal_text::write_entry_with;
+use journal_model::Entry;
+use journal_text::write_entry;
 use si_causes::{Sink, write_all};
 use std::alloc::{AllocError, Global};
 
-// Appends the text of entries, with the numbers of their publications raised.
-fn put_entries(
-    alloc: Global,
-    out: &mut Vec<u8>,
-    entries: &[Entry],
-    shift: u64,
-) -> Result<(), AllocError>
-    requires { AllByRecursion (CanBeWritten shift) entries.now }
-    ensures { OnOk result (out.new.items
-        ≡ out.old.items ++ journal_text (all_raised shift entries.now)) }
+// Appends the text of entries.
+fn put_entries(alloc: Global, out: &mut Vec<u8>, entries: &[Entry]) -> Result<(), AllocError>
+    requires { AreInWindow entries.now }
+    ensures { OnOk result (out.new.items ≡ out.old.items ++ journal_text entries.now) }
 {
     for entry in entries {
-        write_entry_with(alloc, entry, raise(entry.outcome, shift), out)?;
+        write_entry(alloc, entry, out)?;
     }
     Ok(())
-}
-
-// Appends the text of the entries that were made.
-fn put_journal(alloc: Global, out: &mut Vec<u8>, course: &Course) -> Result<(), AllocError>
-    requires { course.now.end.shift < 10 ^ 18 }
-    ensures { OnOk result (out.new.items
-        ≡ out.old.items ++ journal_text (made_entries course.now)) }
-{
-    let desk = &course.end.desk;
-    let _ = desk.mux();
-    let Some(made) = desk.entries().get(course.folded..) else {
-        return Ok(());
-    };
-    put_entries(alloc, out, made, course.end.shift)
 }
 
 // Appends what is said of what was made: the text of the entries, and the line on the bit rate,
 // where the multiplex has one.
 fn put_made(alloc: Global, out: &mut Vec<u8>, course: &Course) -> Result<(), AllocError>
-    requires { course.now.end.shift < 10 ^ 18 }
+    requires { AreInWindow course.now.desk.made.items }
     ensures { OnOk result (out.new.items ≡ out.old.items ++ made_text course.now) }
 {
-    put_journal(alloc, out, course)?;
-    let end = &course.end;
-    put_rate_line(alloc, out, end.desk.mux().rate, end.player.tally())
+    put_entries(alloc, out, &course.desk.made)?;
+    let rate = course.desk.desk.mux().rate;
+    put_rate_line(alloc, out, rate, course.player.tally())
 }
 
 // Appends the checkpoint.
 fn put_checkpoint(alloc: Global, out: &mut Vec<u8>, course: &Course) -> Result<(), AllocError>
-    requires shift { course.now.end.shift < 10 ^ 18 }
-    requires ended { course.now.end.player.left ≡ [] }
-    ensures text { OnOk result (out.new.items
-        ≡ out.old.items ++ course_text true course.now Status.Done) }
-    ensures handed { OnOk result (HandsOver course.now.end.player) }
+    requires { IsCourse Status.Done course.now }
+    ensures text { OnOk result
+        (Appended (IsCourseText true course.now Status.Done) out.old.items out.new.items) }
+    ensures handed { OnOk result (HandsOver course.now.player) }
 {
-    let end = &course.end;
-    write_checkpoint(alloc, &end.desk, end.shift, &end.player, out)
+    let desk = &course.desk;
+    write_lean_checkpoint(alloc, &desk.desk, desk.shift, &course.player, out)
 }
 
 fn is_done(met: Status) -> bool
@@ -85,7 +63,8 @@ fn put_course(
     fold: bool,
 ) -> Result<(), AllocError>
     requires { IsCourse met course.now }
-    ensures text { OnOk result (out.new.items ≡ out.old.items ++ course_text fold course.now met) }
+    ensures text { OnOk result
+        (Appended (IsCourseText fold course.now met) out.old.items out.new.items) }
     ensures handed { OnOk result (HandedBy fold met (Some course.now)) }
 {
     if !fold {
@@ -101,8 +80,7 @@ fn put_course(
 fn report_of(alloc: Global, played: &Played, fold: bool) -> Result<Vec<u8>, AllocError>
     requires course { IfSome played.now.course (IsCourse played.now.met) }
     requires said { CanBeSaid played.now.met }
-    ensures text { IfOk result (λ text. text.items
-        ≡ played_text fold played.now.course played.now.met ++ fault_lines played.now.met) }
+    ensures text { IfOk result (λ text. IsReportText fold played.now text.items) }
     ensures handed { OnOk result (HandedBy fold played.now.met played.now.course) }
 {
     let mut text = Vec::new(alloc);

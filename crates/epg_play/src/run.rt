@@ -1,24 +1,25 @@
 // Runs of `play`, from a head-end that did nothing yet or from a checkpoint.
-ghost use Rattle.std.specs.Prelude.{◌≡◌, ◌≤◌, ◌<◌, ◌^◌, [], List, ℕ, None, Some, IfSome, false, true};
-ghost use Rattle.std.specs.Io.KnownBytes.{IsAtEnd};
+ghost use Rattle.std.specs.Prelude.{◌≡◌, ◌<◌, ◌^◌, [], List, ℕ, None, Some, IfSome, false, true};
 ghost use Rattle.si_causes.specs.Causes.{Rose};
 ghost use Rattle.si_causes.specs.Opening.{Files};
 ghost use Rattle.si_causes.specs.Reading.{fresh_to};
 ghost use Rattle.epg_report.specs.Asked.{HasAskedFor};
 ghost use Rattle.epg_report.specs.Texts.{CanBeSaid};
-ghost use Rattle.epg_play.specs.Courses.{HasPlayedOn, IsCourse, IsMetByResume, IsMetByScript, IsNoDescription, PlayedNew, PlayedResumed, met_by};
+ghost use Rattle.epg_report.specs.Told.{asked};
+ghost use Rattle.epg_play.specs.Courses.{HasMet, HasPlayedOn, IsCourse, IsMetBehind, IsMetByResume, IsMetByScript, PlayedNew, PlayedResumed, met_by};
 ghost use Rattle.epg_play.specs.CheckpointRuns.{FoldRan, FoldRanWithin, ResumeRan, ResumeRanWithin};
 ghost use Rattle.epg_play.specs.Leaves.{PlayRan, PlayRanWithin};
 ghost use Rattle.epg_play.specs.Script.{limit_for};
 
 use crate::begin::{new_start, start_at};
+use crate::desk::ScriptDesk;
 use crate::limit::{PlayAs, script_limit};
 use crate::play::play_rest;
 use crate::played::{Course, Played};
 use crate::report::finish;
 use crate::stop::{PlayStop, mux_stop_of, status_of};
 use desk_checkpoint::Start;
-use epg_report::{Origin, Outlet, Status, out_of_memory};
+use epg_report::{Origin, Status, out_of_memory};
 use mux_config::read_mux;
 use si_causes::{LineReader, Opener, Sink, Source};
 use std::alloc::Global;
@@ -40,68 +41,62 @@ fn met_of(played: Result<(), PlayStop>) -> Status
     }
 }
 
-// Plays the commands that are left, from a start on.
+// Plays the commands that are left, from a start on, and keeps the entries that are made unless they are folded.
 fn play_on<S: Source, A: Sink>(
     alloc: Global,
     lines: &mut LineReader<S>,
     start: Start,
+    fold: bool,
     air: &mut A,
 ) -> Played
     requires going { lines.old.stop ≡ None }
     requires ended { start.player.left ≡ [] }
     requires shift { start.shift < 10 ^ 18 }
-    ensures played { HasPlayedOn S.left lines.old lines.new start
+    ensures played { HasPlayedOn fold S.left lines.old lines.new start
         (A.written air.old) (A.written air.new) result }
     ensures course { IfSome result.course (IsCourse result.met) }
     ensures said { CanBeSaid result.met }
-    ensures known { IsMetByScript result.met }
-    ensures behind { IsNoDescription result.met }
-    ensures end { result.met ≡ Status.Done → IsAtEnd (S.left lines.new.source) }
-    ensures input_cause { result.met ≡ Status.ReadFault Origin.Input
-        → Rose (S.faults lines.old.source) (S.faults lines.new.source) }
-    ensures air_cause { result.met ≡ Status.WriteFault Outlet.Air
-        → Rose (A.faults air.old) (A.faults air.new) }
-    ensures same { S.same lines.old.source lines.new.source }
+    ensures known { IsMetBehind result.met }
+    ensures met { HasMet S.left S.faults S.same lines.old.source lines.new.source
+        A.faults air.old air.new result.met }
 {
-    let shift = start.shift;
-    let mut desk = start.desk;
-    let mut player = start.player;
-    let folded = desk.entries().len();
-    let played = play_rest(alloc, lines, &mut desk, &mut player, air, shift);
-    let _ = desk.entries();
-    let end = Start {
+    let Start {
         desk,
         shift,
         player,
-    };
+    } = start;
+    let desk = ScriptDesk::open(alloc, desk.without_journal(), shift, !fold);
+    let mut course = Course { desk, player };
+    let played = play_rest(alloc, lines, &mut course, air);
     Played {
-        course: Some(Course { end, folded }),
+        course: Some(course),
         met: met_of(played),
     }
 }
 
 // Plays the script of an input, from a head-end that did nothing yet.
-fn play_new<S: Source, A: Sink>(alloc: Global, lines: &mut LineReader<S>, air: &mut A) -> Played
+fn play_new<S: Source, A: Sink>(
+    alloc: Global,
+    lines: &mut LineReader<S>,
+    fold: bool,
+    air: &mut A,
+) -> Played
     requires unread { lines.old ≡ fresh_to lines.old.limit lines.old.source }
     ensures played { (text : List ℕ) → S.left lines.old.source ≡ Some text
-        → PlayedNew lines.old.limit text (S.left lines.new.source)
+        → PlayedNew fold lines.old.limit text (S.left lines.new.source)
         (A.written air.old) (A.written air.new) result }
     ensures course { IfSome result.course (IsCourse result.met) }
     ensures said { CanBeSaid result.met }
     ensures known { IsMetByScript result.met }
-    ensures end { result.met ≡ Status.Done → IsAtEnd (S.left lines.new.source) }
-    ensures input_cause { result.met ≡ Status.ReadFault Origin.Input
-        → Rose (S.faults lines.old.source) (S.faults lines.new.source) }
-    ensures air_cause { result.met ≡ Status.WriteFault Outlet.Air
-        → Rose (A.faults air.old) (A.faults air.new) }
-    ensures same { S.same lines.old.source lines.new.source }
+    ensures met { HasMet S.left S.faults S.same lines.old.source lines.new.source
+        A.faults air.old air.new result.met }
 {
     let mux = match read_mux(alloc, lines) {
         Ok(mux) => mux,
         Err(stop) => return not_played(status_of(mux_stop_of(stop))),
     };
     match new_start(alloc, mux) {
-        Ok(start) => play_on(alloc, lines, start, air),
+        Ok(start) => play_on(alloc, lines, start, fold, air),
         Err(_) => not_played(Status::Memory),
     }
 }
@@ -111,36 +106,33 @@ fn play_from<O: Opener, S: Source, A: Sink>(
     alloc: Global,
     lines: &mut LineReader<S>,
     path: &str,
+    fold: bool,
     opener: &mut O,
     air: &mut A,
 ) -> Played
     requires unread { lines.old ≡ fresh_to lines.old.limit lines.old.source }
     ensures played { (text : List ℕ) → S.left lines.old.source ≡ Some text
         → (files : Files) → O.files opener.old ≡ Some files
-        → PlayedResumed lines.old.limit path.now files text (S.left lines.new.source)
-        (O.tried opener.old) (O.tried opener.new)
+        → PlayedResumed fold lines.old.limit path.now files text (S.left lines.new.source)
+        (asked O.files O.tried O.faults O.read_faults opener.old opener.new)
         (A.written air.old) (A.written air.new) result }
     ensures course { IfSome result.course (IsCourse result.met) }
     ensures said { CanBeSaid result.met }
     ensures known { IsMetByResume result.met }
+    ensures met { HasMet S.left S.faults S.same lines.old.source lines.new.source
+        A.faults air.old air.new result.met }
     ensures asked { HasAskedFor path.now (O.tried opener.old) (O.tried opener.new) result.met }
-    ensures end { result.met ≡ Status.Done → IsAtEnd (S.left lines.new.source) }
-    ensures input_cause { result.met ≡ Status.ReadFault Origin.Input
-        → Rose (S.faults lines.old.source) (S.faults lines.new.source) }
     ensures open_cause { (n : ℕ) → result.met ≡ Status.OpenFault n
         → Rose (O.faults opener.old) (O.faults opener.new) }
     ensures read_cause { result.met ≡ Status.ReadFault Origin.Recording
         → Rose (O.read_faults opener.old) (O.read_faults opener.new) }
-    ensures air_cause { result.met ≡ Status.WriteFault Outlet.Air
-        → Rose (A.faults air.old) (A.faults air.new) }
-    ensures same { S.same lines.old.source lines.new.source }
 {
     let mux = match read_mux(alloc, lines) {
         Ok(mux) => mux,
         Err(stop) => return not_played(status_of(mux_stop_of(stop))),
     };
     match start_at(alloc, mux, path, opener) {
-        Ok(start) => play_on(alloc, lines, start, air),
+        Ok(start) => play_on(alloc, lines, start, fold, air),
         Err(met) => not_played(met),
     }
 }
@@ -165,7 +157,7 @@ pub fn run_play_as<S: Source, A: Sink, R: Sink>(
     let Ok(mut lines) = LineReader::open_to(alloc, &mut *input, limit) else {
         return out_of_memory(report);
     };
-    let played = play_new(alloc, &mut lines, air);
+    let played = play_new(alloc, &mut lines, how.fold, air);
     let _source = lines.close();
     finish(alloc, &played, how.fold, report)
 }
@@ -230,7 +222,7 @@ pub fn run_resumed_as<O: Opener, S: Source, A: Sink, R: Sink>(
     let Ok(mut lines) = LineReader::open_to(alloc, &mut *input, limit) else {
         return out_of_memory(report);
     };
-    let played = play_from(alloc, &mut lines, path, opener, air);
+    let played = play_from(alloc, &mut lines, path, how.fold, opener, air);
     let _source = lines.close();
     finish(alloc, &played, how.fold, report)
 }

@@ -21,10 +21,9 @@ returns-in-Ok-clause-did g c = λ keep journal before e.
     let entry = c.args.entry.now in
     let mid : Follower = record c.args.follower.now { made = Some entry.outcome } in
     let swap : is_swap entry.step ≡ true = search rules in
-    let others = c.in-Ok.ensures.others in
-    swap_did keep journal before mid entry.who entry.step _ _ entry e.is e.stood.legal e.stands e.mux e.player refl c.send.new.follower swap
-    (ap (λ (f : Follower). f.desk) others) (ap (λ (f : Follower). f.made) others) c.in-Ok.ensures.form c.in-Ok.ensures.rate c.in_default.ensures.writes
-    (c.in-Ok.ensures.sent _ e.stands) (c.in-Ok.ensures.counted _ e.stands)
+    swap_did keep journal before mid entry.who entry.step _ _ entry e.is e.stood.legal e.stands e.mux e.player refl (record mid { player = c.send_on_air.new.player }) swap
+    refl refl c.in-Ok.ensures.alike c.in_default.ensures.writes
+    (λ xs at_end. c.in-Ok.ensures.sent _ xs e.stands at_end) (c.in-Ok.ensures.counted _ e.stands)
 
 pub returns-in-Err-Air-clause-did : goal.returns-in-Err-Air-clause-did
 returns-in-Err-Air-clause-did g c = λ keep journal before e.
@@ -32,9 +31,9 @@ returns-in-Err-Air-clause-did g c = λ keep journal before e.
     let mid : Follower = record c.args.follower.now { made = Some entry.outcome } in
     let swap : is_swap entry.step ≡ true = search rules in
     let sent = rw c.in-Err-Air.field-0-is at c.in-Err-Air.ensures in
-    swap_cut keep journal before mid entry.who entry.step _ _ entry e.is e.stood.legal e.stands e.mux e.player refl c.send.new.follower swap
-    (ap (λ (f : Follower). f.desk) sent.others) (ap (λ (f : Follower). f.made) sent.others) sent.form sent.rate c.in_default.ensures.writes
-    sent.cause (sent.sent _ e.stands) (sent.counted _ e.stands)
+    swap_cut keep journal before mid entry.who entry.step _ _ entry e.is e.stood.legal e.stands e.mux e.player refl (record mid { player = c.send_on_air.new.player }) swap
+    refl refl sent.alike c.in_default.ensures.writes
+    sent.cause (λ xs at_end. sent.sent _ xs e.stands at_end) (sent.counted _ e.stands)
 
 pub returns-in-Err-Memory-clause-did : goal.returns-in-Err-Memory-clause-did
 returns-in-Err-Memory-clause-did g c = λ keep journal before e.
@@ -42,6 +41,6 @@ returns-in-Err-Memory-clause-did g c = λ keep journal before e.
     let mid : Follower = record c.args.follower.now { made = Some entry.outcome } in
     let swap : is_swap entry.step ≡ true = search rules in
     let sent = rw c.in-Err-Memory.field-0-is at c.in-Err-Memory.ensures in
-    swap_given_up keep journal before mid entry.who entry.step _ _ entry e.is e.stood.legal e.stands e.mux e.player refl c.send.new.follower swap
-    (ap (λ (f : Follower). f.desk) sent.others) (ap (λ (f : Follower). f.made) sent.others) sent.form sent.rate c.in_default.ensures.writes
-    (ap (λ a. g.A.Sink.written a) (search rules))
+    swap_given_up keep journal before mid entry.who entry.step _ _ entry e.is e.stood.legal e.stands e.mux e.player refl (record mid { player = c.send_on_air.new.player }) swap
+    refl refl sent.alike c.in_default.ensures.writes
+    (ap (λ a. g.A.Sink.written a) (sent.memory refl).0)

@@ -1,7 +1,7 @@
 use Rattle.std.proofs.Common.{◌∷◌, ◌++◌, [], subst}
 use Rattle.journal_model.specs.declared.step.Outcome.{Outcome}
 use Rattle.desk_core.specs.Lean.{StandsFor}
-use Rattle.epg_follow.proofs.ItemFacts.{entry_window, few_raised}
+use Rattle.epg_play.proofs.RaiseFacts.{entry_window, few_raised}
 use Rattle.epg_follow.proofs.item.entry_of.Goals as goal
 
 pub raise-outcome-requires : goal.raise-outcome-requires

@@ -1,5 +1,5 @@
 use Rattle.std.proofs.Common.{ap, ◌∙◌, refl}
-use Rattle.si_causes.proofs.CauseFacts.{Appends-nothing}
+use Rattle.si_causes.proofs.CauseFacts.{Appends-nothing, Rose-from}
 use Rattle.epg_play.specs.Leaves.{status_for}
 use Rattle.epg_report.specs.Told.{asked, told}
 use Rattle.epg_follow.proofs.NewRuns.{undescribed_run}
@@ -25,3 +25,14 @@ returns-in-Err-start_at-clause-leaves g c = λ text tells files has.
     (asked g.O.Opener.files g.O.Opener.tried g.O.Opener.faults g.O.Opener.read_faults c.args.opener.now c.start_at.new.opener)
     c.requires.unread tells c.in-Ok.ensures.read c.in-Err-start_at.ensures.tried c.in-Err-start_at.met c.end_idle-in-Err-start_at.result _ _ _ _ _ _
     (c.in-Err-start_at.ensures.begins files has) c.in-Err-start_at.ensures.known c.end_idle-in-Err-start_at.ensures.ended
+
+pub returns-in-Ok-start_at-clause-met : goal.returns-in-Ok-start_at-clause-met
+returns-in-Ok-start_at-clause-met g c =
+    let met = c.follow_on.ensures.met in
+    let read = c.in-Ok.ensures.read.reads in
+    record {
+      end = met.end;
+      input_cause = λ e. Rose-from _ _ _ read.later (met.input_cause e);
+      air_cause = met.air_cause;
+      same = g.met.S.Source.same_later c.args.lines.now.source c.read_mux.new.lines.source c.follow_on.new.lines.source read.same met.same;
+    }

@@ -23,12 +23,12 @@ returns g c =
             (run.ensures.leaves text (ap g.S.Source.left old ∙ tells) files has);
         known = run.ensures.known;
         asked_for = run.ensures.asked;
-        end = subst (λ s. run.result ≡ Done → IsAtEnd (g.S.Source.left s)) (sym same) run.ensures.end;
+        end = subst (λ s. run.result ≡ Done → IsAtEnd (g.S.Source.left s)) (sym same) run.ensures.met.end;
         input_cause = subst (λ s. run.result ≡ ReadFault Input → Rose (g.S.Source.faults c.args.input.now) (g.S.Source.faults s)) (sym same)
-            (subst (λ s. run.result ≡ ReadFault Input → Rose (g.S.Source.faults s) (g.S.Source.faults run.new.lines.source.now)) old run.ensures.input_cause);
+            (subst (λ s. run.result ≡ ReadFault Input → Rose (g.S.Source.faults s) (g.S.Source.faults run.new.lines.source.now)) old run.ensures.met.input_cause);
         open_cause = run.ensures.open_cause;
         read_cause = run.ensures.read_cause;
-        air_cause = run.ensures.air_cause;
+        air_cause = run.ensures.met.air_cause;
         report_cause = run.ensures.report_cause;
       };
     }

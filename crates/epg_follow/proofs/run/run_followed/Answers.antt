@@ -21,10 +21,10 @@ returns g c =
         leaves = λ text tells. subst (λ s. LeavesLong (Nothing air report) (λ mux. FollowsBehind c.args.keep mux [] [] air report) text (g.S.Source.left s) run.result) (sym same)
             (run.ensures.leaves text (ap g.S.Source.left old ∙ tells));
         known = run.ensures.known;
-        end = subst (λ s. run.result ≡ Done → IsAtEnd (g.S.Source.left s)) (sym same) run.ensures.end;
+        end = subst (λ s. run.result ≡ Done → IsAtEnd (g.S.Source.left s)) (sym same) run.ensures.met.end;
         input_cause = subst (λ s. run.result ≡ ReadFault Input → Rose (g.S.Source.faults c.args.input.now) (g.S.Source.faults s)) (sym same)
-            (subst (λ s. run.result ≡ ReadFault Input → Rose (g.S.Source.faults s) (g.S.Source.faults run.new.lines.source.now)) old run.ensures.input_cause);
-        air_cause = run.ensures.air_cause;
+            (subst (λ s. run.result ≡ ReadFault Input → Rose (g.S.Source.faults s) (g.S.Source.faults run.new.lines.source.now)) old run.ensures.met.input_cause);
+        air_cause = run.ensures.met.air_cause;
         report_cause = run.ensures.report_cause;
       };
     }

@@ -1,22 +1,11 @@
-use Rattle.std.proofs.Common.{◌≡◌, List, ℕ, sym, subst, arith, inl, inr, ◌⊎◌}
-use Rattle.std.specs.Prelude.{Option, Ok, Err, false}
+use Rattle.std.proofs.Common.{sym, subst, arith, refl}
+use Rattle.std.specs.Prelude.{Err}
 use Rattle.epg_play.specs.declared.stop.PlayStop.{PlayStop}
-use Rattle.air_model.specs.Air.{Aired}
-use Rattle.cycle_player.specs.Sending.{Sending}
-use Rattle.desk_core.specs.Journal.{Legal}
-use Rattle.desk_core.specs.Desks.{DeskState}
-use Rattle.journal_air.specs.OnAir.{HasAired}
-use Rattle.journal_air.specs.Tallied.{HasTallied}
-use Rattle.journal_air.proofs.SwapFacts.{after_swap_aired, after_other_aired}
-use Rattle.epg_play.specs.Items.{Stops, StepAt}
-use Rattle.epg_play.specs.Played.{AiredTo, IsBehindMux, TalliedTo}
-use Rattle.epg_play.proofs.CourseFacts.{went_none, cut_stop, cut_aired, item_behind, sent_behind, stopped_aired, stopped_no_air}
-use Rattle.epg_play.proofs.TallyFacts.{cut_tallied, other_kept, stopped_tallied, swap_kept, swap_player}
+use Rattle.epg_play.specs.Courses.{PlaysRest}
+use Rattle.epg_play.specs.Played.{HasAirCause, HasReadCause, IsStopBehind}
+use Rattle.epg_play.proofs.CourseFacts.{item_behind, item_no_air, sent_behind, sent_caused, sent_no_read}
+use Rattle.epg_play.proofs.RestFacts.{course_with, gone_none, gone_other, gone_swap, rest_cut, rest_ended, rest_stopped, stays_on}
 use Rattle.epg_play.proofs.play.play_rest.Goals as goal
-
-other_aired : (earlier : List Aired) (old desk : DeskState) (player : Sending) (before now : Option (List ℕ)) → StepAt false old desk ⊎ (desk ≡ old) → Legal old.mux old.entries → HasAired earlier old player before now → HasAired earlier desk player before now
-other_aired earlier old desk player before now (inl step) legal has = after_other_aired earlier old desk step.who step.step player before now step.did legal step.is has
-other_aired earlier old desk player before now (inr same) legal has = subst (λ (d : DeskState). HasAired earlier d player before now) (sym same) has
 
 pub items-init : goal.items-init
 items-init g c = record {
@@ -24,58 +13,28 @@ items-init g c = record {
   same = g.met.S.Source.same_at_once c.args.lines.now.source;
   read_later = omega arith;
   air_later = omega arith;
-  at_end = c.requires.at_end;
-  legal = c.requires.legal;
-  window = tt;
-  aired = λ earlier before has. has;
-  kept = λ kept. kept;
-  went = went_none c.args.shift g.S.Source.left c.args.lines.now c.args.desk.now;
+  at_end = c.requires.ready.at_end;
+  stays = record { ready = c.requires.ready.ready; shift = refl; keeps = refl };
+  gone = λ before at. gone_none g.S.Source.left c.args.lines.now before c.args.course.now (g.A.Sink.written c.args.air.now) at c.requires.ready.first;
 }
-
-pub returns-in-Err-send_on_air-clause-did : goal.returns-in-Err-send_on_air-clause-did
-returns-in-Err-send_on_air-clause-did g c =
-    let e = rw c.in-Ok-Swap.field-0-is at c.in-Ok-Swap.ensures in
-    (subst (λ (s : PlayStop). Stops c.args.shift g.S.Source.left c.args.lines.now c.do_item.new.lines c.args.desk.now c.do_item.new.desk (Err s)) (sym c.stop_of.ensures)
-    (cut_stop c.args.shift g.S.Source.left c.args.lines.now c.do_item.new.lines c.args.desk.now c.do_item.new.desk c.do_item.new.made c.in-Err-send_on_air.stop (e.goes_on c.args.lines.now c.args.desk.now c.items.invariant.went))).0
-
-pub returns-in-Err-send_on_air-clause-aired : goal.returns-in-Err-send_on_air-clause-aired
-returns-in-Err-send_on_air-clause-aired g c = λ earlier before has.
-    let e = rw c.in-Ok-Swap.field-0-is at c.in-Ok-Swap.ensures in
-    let i = c.items.invariant in
-    subst (λ (s : PlayStop). AiredTo {T = Unit {0}} earlier c.do_item.new.desk c.send_on_air.new.player before (g.A.Sink.written c.send_on_air.new.air) (Err s)) (sym c.stop_of.ensures)
-    (cut_aired c.args.shift earlier c.do_item.new.desk c.send_on_air.new.player before (g.A.Sink.written c.send_on_air.new.air) c.in-Err-send_on_air.stop
-    (after_swap_aired earlier c.items.desk c.do_item.new.desk e.did.who e.did.step c.items.player c.send_on_air.new.player before (g.A.Sink.written c.items.air) (g.A.Sink.written c.send_on_air.new.air) (Err c.in-Err-send_on_air.stop)
-    e.did.did i.legal e.did.is (record { form = c.in-Err-send_on_air.ensures.form; rate = c.in-Err-send_on_air.ensures.rate }) (i.aired earlier before has) c.in-Err-send_on_air.ensures.sent))
 
 pub items-preserved-in_default : goal.items-preserved-in_default
 items-preserved-in_default g c =
     let i = c.items.invariant in
     let e = rw c.in-Ok-Swap.field-0-is at c.in-Ok-Swap.ensures in
+    let s = c.in_default.ensures in
     record {
       going = e.going;
-      same = g.met.S.Source.same_later c.args.lines.now.source c.items.lines.source c.do_item.new.lines.source i.same e.same;
-      read_later = omega (arith, i.read_later, e.later);
-      air_later = omega (arith, i.air_later, c.in_default.ensures.later);
-      at_end = c.in_default.ensures.ended;
-      legal = e.legal;
-      window = e.window;
-      aired = λ earlier before has. after_swap_aired earlier c.items.desk c.do_item.new.desk e.did.who e.did.step c.items.player c.send_on_air.new.player before (g.A.Sink.written c.items.air) (g.A.Sink.written c.send_on_air.new.air) (Ok tt)
-          e.did.did i.legal e.did.is (record { form = c.in_default.ensures.form; rate = c.in_default.ensures.rate }) (i.aired earlier before has) c.in_default.ensures.sent;
-      kept = λ kept.
-          let old = i.kept kept in (
-            swap_player c.items.desk c.do_item.new.desk c.items.player c.send_on_air.new.player e.did c.in_default.ensures.form c.in_default.ensures.rate old.0,
-            swap_kept c.items.desk c.do_item.new.desk c.items.player c.send_on_air.new.player (Ok tt) e.did i.legal old c.in_default.ensures.counted,
-          );
-      went = e.goes_on c.args.lines.now c.args.desk.now i.went;
+      same = g.met.S.Source.same_later c.args.lines.now.source c.items.lines.source c.do_item.new.lines.source i.same e.read.same;
+      read_later = omega (arith, i.read_later, e.read.later);
+      air_later = omega (arith, i.air_later, s.later);
+      at_end = s.ended;
+      stays = stays_on c.args.course.now.desk c.items.course.desk c.do_item.new.desk i.stays e.stays;
+      gone = λ before at.
+          let g0 = i.gone before at in
+          gone_swap g.S.Source.left c.args.lines.now before c.args.course.now.player (g.A.Sink.written c.args.air.now) c.items.lines c.do_item.new.lines c.items.course.desk c.do_item.new.desk c.items.course.player (g.A.Sink.written c.items.air)
+          g0 (e.left c.args.lines.now before g0.now g0.at g0.went) c.send_on_air.new.player (g.A.Sink.written c.send_on_air.new.air) (record { sent = s.sent; counted = s.counted; alike = s.alike });
     }
-
-pub returns-in-Err-send_on_air-clause-tallied : goal.returns-in-Err-send_on_air-clause-tallied
-returns-in-Err-send_on_air-clause-tallied g c = λ is has.
-    let e = rw c.in-Ok-Swap.field-0-is at c.in-Ok-Swap.ensures in
-    let i = c.items.invariant in
-    subst (λ (s : PlayStop). TalliedTo {T = Unit {0}} c.do_item.new.desk c.send_on_air.new.player (Err s)) (sym c.stop_of.ensures)
-    (cut_tallied c.do_item.new.desk c.send_on_air.new.player c.in-Err-send_on_air.stop
-    (swap_kept c.items.desk c.do_item.new.desk c.items.player c.send_on_air.new.player (Err c.in-Err-send_on_air.stop) e.did i.legal (i.kept (is, has)) c.in-Err-send_on_air.ensures.counted))
 
 pub items-preserved : goal.items-preserved
 items-preserved g c =
@@ -83,51 +42,63 @@ items-preserved g c =
     let e = rw c.in-Ok-Other.field-0-is at c.in-Ok-Other.ensures in
     record {
       going = e.going;
-      same = g.met.S.Source.same_later c.args.lines.now.source c.items.lines.source c.do_item.new.lines.source i.same e.same;
-      read_later = omega (arith, i.read_later, e.later);
+      same = g.met.S.Source.same_later c.args.lines.now.source c.items.lines.source c.do_item.new.lines.source i.same e.read.same;
+      read_later = omega (arith, i.read_later, e.read.later);
       air_later = i.air_later;
       at_end = i.at_end;
-      legal = e.legal;
-      window = e.window;
-      aired = λ earlier before has. other_aired earlier c.items.desk c.do_item.new.desk c.items.player before (g.A.Sink.written c.items.air) e.did i.legal (i.aired earlier before has);
-      kept = λ kept. other_kept c.items.desk c.do_item.new.desk c.items.player e.did i.legal (i.kept kept);
-      went = e.goes_on c.args.lines.now c.args.desk.now i.went;
+      stays = stays_on c.args.course.now.desk c.items.course.desk c.do_item.new.desk i.stays e.stays;
+      gone = λ before at.
+          let g0 = i.gone before at in
+          gone_other g.S.Source.left c.args.lines.now before c.args.course.now.player (g.A.Sink.written c.args.air.now) c.items.lines c.do_item.new.lines c.items.course.desk c.do_item.new.desk c.items.course.player (g.A.Sink.written c.items.air)
+          g0 (e.left c.args.lines.now before g0.now g0.at g0.went);
     }
 
-pub returns-in-Ok-End-clause-did : goal.returns-in-Ok-End-clause-did
-returns-in-Ok-End-clause-did g c =
-    let e = rw c.in-Ok-End.field-0-is at c.in-Ok-End.ensures in
-    (e.goes_on c.args.lines.now c.args.desk.now c.items.invariant.went).0
-
-pub returns-in-Ok-End-clause-aired : goal.returns-in-Ok-End-clause-aired
-returns-in-Ok-End-clause-aired g c = λ earlier before has.
-    let e = rw c.in-Ok-End.field-0-is at c.in-Ok-End.ensures in
-    subst (λ (d : DeskState). HasAired earlier d c.items.player before (g.A.Sink.written c.items.air)) (sym e.did) (c.items.invariant.aired earlier before has)
-
-pub returns-in-Ok-End-clause-tallied : goal.returns-in-Ok-End-clause-tallied
-returns-in-Ok-End-clause-tallied g c = λ is has.
-    let e = rw c.in-Ok-End.field-0-is at c.in-Ok-End.ensures in
-    subst (λ (d : DeskState). HasTallied d c.items.player) (sym e.did) (c.items.invariant.kept (is, has)).1
-
-pub returns-in-Err-clause-did : goal.returns-in-Err-clause-did
-returns-in-Err-clause-did g c = (c.in-Err.ensures.goes_on c.args.lines.now c.args.desk.now c.items.invariant.went).0
-
-pub returns-in-Err-clause-taken : goal.returns-in-Err-clause-taken
-returns-in-Err-clause-taken g c = (c.in-Err.ensures.goes_on c.args.lines.now c.args.desk.now c.items.invariant.went).1
-
-pub returns-in-Err-clause-aired : goal.returns-in-Err-clause-aired
-returns-in-Err-clause-aired g c = λ earlier before has.
-    stopped_aired c.args.shift earlier c.items.desk c.do_item.new.desk c.items.player before (g.A.Sink.written c.items.air) c.in-Err.stop c.in-Err.ensures.did (c.items.invariant.aired earlier before has)
-
-pub returns-in-Err-clause-tallied : goal.returns-in-Err-clause-tallied
-returns-in-Err-clause-tallied g c = λ is has.
-    stopped_tallied c.items.desk c.do_item.new.desk c.items.player c.in-Err.stop c.in-Err.ensures.did (c.items.invariant.kept (is, has)).1
-
-pub returns-in-Err-clause-air_cause : goal.returns-in-Err-clause-air_cause
-returns-in-Err-clause-air_cause g c = stopped_no_air c.args.shift c.items.desk c.do_item.new.desk (g.A.Sink.faults c.args.air.now) (g.A.Sink.faults c.items.air) c.in-Err.stop c.in-Err.ensures.did
+pub returns-in-Err-send_on_air-clause-plays : goal.returns-in-Err-send_on_air-clause-plays
+returns-in-Err-send_on_air-clause-plays g c = λ before at.
+    let e = rw c.in-Ok-Swap.field-0-is at c.in-Ok-Swap.ensures in
+    let s = c.in-Err-send_on_air.ensures in
+    let g0 = c.items.invariant.gone before at in
+    let w = g.A.Sink.written c.args.air.now in
+    subst (λ (stop : PlayStop). PlaysRest g.S.Source.left c.args.lines.now c.do_item.new.lines before c.args.course.now.player w (g.A.Sink.written c.send_on_air.new.air)
+    (course_with c.do_item.new.desk c.send_on_air.new.player) (Err stop)) (sym c.stop_of.ensures)
+    (rest_cut g.S.Source.left c.args.lines.now before c.args.course.now.player w c.items.lines c.do_item.new.lines c.items.course.desk c.do_item.new.desk c.items.course.player (g.A.Sink.written c.items.air)
+    g0 (e.left c.args.lines.now before g0.now g0.at g0.went) c.send_on_air.new.player (g.A.Sink.written c.send_on_air.new.air) c.in-Err-send_on_air.stop (record { sent = s.sent; counted = s.counted; alike = s.alike }))
 
 pub returns-in-Err-send_on_air-clause-behind : goal.returns-in-Err-send_on_air-clause-behind
-returns-in-Err-send_on_air-clause-behind g c = subst IsBehindMux (sym c.stop_of.ensures) (sent_behind c.in-Err-send_on_air.stop)
+returns-in-Err-send_on_air-clause-behind g c = subst IsStopBehind (sym c.stop_of.ensures) (sent_behind c.in-Err-send_on_air.stop)
+
+pub returns-in-Err-send_on_air-clause-read : goal.returns-in-Err-send_on_air-clause-read
+returns-in-Err-send_on_air-clause-read g c =
+    let i = c.items.invariant in
+    let e = rw c.in-Ok-Swap.field-0-is at c.in-Ok-Swap.ensures in
+    record {
+      end = λ no. cc no;
+      cause = subst (λ (stop : PlayStop). HasReadCause {T = Unit {0}} (g.S.Source.faults c.args.lines.now.source) (g.S.Source.faults c.do_item.new.lines.source) (Err stop))
+          (sym c.stop_of.ensures) (sent_no_read _ _ c.in-Err-send_on_air.stop);
+      later = omega (arith, i.read_later, e.read.later);
+      same = g.met.S.Source.same_later c.args.lines.now.source c.items.lines.source c.do_item.new.lines.source i.same e.read.same;
+    }
+
+pub returns-in-Err-send_on_air-clause-cause : goal.returns-in-Err-send_on_air-clause-cause
+returns-in-Err-send_on_air-clause-cause g c =
+    subst (λ (stop : PlayStop). HasAirCause {T = Unit {0}} (g.A.Sink.faults c.args.air.now) (g.A.Sink.faults c.send_on_air.new.air) (Err stop)) (sym c.stop_of.ensures)
+    (sent_caused (g.A.Sink.faults c.args.air.now) (g.A.Sink.faults c.items.air) (g.A.Sink.faults c.send_on_air.new.air) c.in-Err-send_on_air.stop c.items.invariant.air_later c.in-Err-send_on_air.ensures.cause)
+
+pub returns-in-Err-clause-cause : goal.returns-in-Err-clause-cause
+returns-in-Err-clause-cause g c = item_no_air _ _ c.in-Err.stop c.in-Err.ensures.behind
 
 pub returns-in-Err-clause-behind : goal.returns-in-Err-clause-behind
-returns-in-Err-clause-behind g c = item_behind c.items.desk c.do_item.new.desk c.in-Err.stop c.in-Err.ensures.did
+returns-in-Err-clause-behind g c = item_behind c.in-Err.stop c.in-Err.ensures.behind
+
+pub returns-in-Ok-End-clause-plays : goal.returns-in-Ok-End-clause-plays
+returns-in-Ok-End-clause-plays g c = λ before at.
+    let e = rw c.in-Ok-End.field-0-is at c.in-Ok-End.ensures in
+    let g0 = c.items.invariant.gone before at in
+    rest_ended g.S.Source.left c.args.lines.now before c.args.course.now.player (g.A.Sink.written c.args.air.now) c.items.lines c.do_item.new.lines c.items.course.desk c.do_item.new.desk c.items.course.player (g.A.Sink.written c.items.air)
+    g0 (e.left c.args.lines.now before g0.now g0.at g0.went)
+
+pub returns-in-Err-clause-plays : goal.returns-in-Err-clause-plays
+returns-in-Err-clause-plays g c = λ before at.
+    let g0 = c.items.invariant.gone before at in
+    rest_stopped g.S.Source.left c.args.lines.now before c.args.course.now.player (g.A.Sink.written c.args.air.now) c.items.lines c.do_item.new.lines c.items.course.desk c.do_item.new.desk c.items.course.player (g.A.Sink.written c.items.air)
+    g0 c.in-Err.stop (c.in-Err.ensures.left c.args.lines.now before g0.now g0.at g0.went)

@@ -1,12 +1,9 @@
-use Rattle.std.proofs.Common.{◌≡◌, ◌≤◌, List, [], ℕ}
-use Rattle.std.specs.Prelude.{Option, None, IfSome}
+use Rattle.std.proofs.Common.{◌≡◌, ◌≤◌, []}
+use Rattle.std.specs.Prelude.{None}
 use Rattle.si_causes.specs.Reading.{room}
-use Rattle.air_model.specs.Air.{Aired}
-use Rattle.desk_core.specs.Journal.{Legal}
-use Rattle.journal_model.specs.Steps.{IsInWindow}
-use Rattle.journal_air.specs.OnAir.{HasAired}
-use Rattle.epg_play.specs.Items.{Went}
-use Rattle.epg_play.proofs.TallyFacts.{HasKept}
+use Rattle.desk_core.specs.Desks.{DeskState}
+use Rattle.epg_play.specs.Items.{IsAt, Stays}
+use Rattle.epg_play.proofs.RestFacts.{Gone}
 use Rattle.epg_play.proofs.play.play_rest.Given as goal
 
 abbrev pub invariant-items : goal.invariant-items
@@ -16,12 +13,10 @@ invariant-items g l =
       same : g.S.Source.same l.fn.lines.source l.lines.source;
       read_later : g.S.Source.faults l.fn.lines.source ≤ g.S.Source.faults l.lines.source;
       air_later : g.A.Sink.faults l.fn.air ≤ g.A.Sink.faults l.air;
-      at_end : l.player.left ≡ [];
-      legal : Legal l.desk.mux l.desk.entries;
-      window : IfSome l.made IsInWindow;
-      aired : (earlier : List Aired) (before : Option (List ℕ)) → HasAired earlier l.fn.desk l.fn.player before (g.A.Sink.written l.fn.air) → HasAired earlier l.desk l.player before (g.A.Sink.written l.air);
-      kept : HasKept l.fn.desk l.fn.player → HasKept l.desk l.player;
-      went : Went l.fn.shift g.S.Source.left l.fn.lines l.lines l.fn.desk l.desk l.made;
+      at_end : l.course.player.left ≡ [];
+      stays : Stays l.fn.course.desk l.course.desk;
+      gone : (before : DeskState) → IsAt before before l.fn.course.desk
+          → Gone g.S.Source.left l.fn.lines before l.fn.course.player (g.A.Sink.written l.fn.air) l.lines l.course (g.A.Sink.written l.air);
     }
 
 abbrev pub decreases-items : goal.decreases-items

@@ -1,48 +1,49 @@
-use Rattle.std.proofs.Common.{◌≡◌, true, List, [], length, refl, sym, ap, ◌∙◌, subst}
-use Rattle.std.specs.List.{AllByRecursion}
-use Rattle.journal_model.specs.declared.step.Entry.{Entry}
-use Rattle.journal_model.specs.Steps.{IsStepWithin}
-use Rattle.epg_report.specs.declared.status.Status.{Status}
+use Rattle.std.proofs.Common.{ℕ, refl, sym, ap, ◌∙◌, subst}
+use Rattle.std.specs.Prelude.{not}
 use Rattle.epg_report.specs.Texts.{CanBeSaid}
-use Rattle.epg_play.specs.Courses.{IsMetByScript, IsNoDescription, is_done}
-use Rattle.epg_play.proofs.StopFacts.{met_air, met_behind, met_end, met_ended, met_input, met_known, met_said}
+use Rattle.epg_play.specs.declared.desk.ScriptDesk.{ScriptDesk}
+use Rattle.epg_play.specs.Courses.{IsMetBehind}
+use Rattle.epg_play.specs.Items.{Stops}
+use Rattle.epg_play.proofs.RestFacts.{begun_at}
+use Rattle.epg_play.proofs.StopFacts.{met_air, met_behind, met_end, met_input, met_said}
 use Rattle.epg_play.proofs.run.play_on.Goals as goal
 
 pub returns-clause-said : goal.returns-clause-said
-returns-clause-said g c = subst CanBeSaid (sym c.met_of.ensures) (met_said c.play_rest-played.result c.play_rest-played.ensures.window)
+returns-clause-said g c = subst CanBeSaid (sym c.met_of.ensures) (met_said c.play_rest-played.result c.play_rest-played.ensures.behind)
 
 pub returns-clause-known : goal.returns-clause-known
-returns-clause-known g c = subst IsMetByScript (sym c.met_of.ensures) (met_known c.play_rest-played.result)
+returns-clause-known g c = subst IsMetBehind (sym c.met_of.ensures) (met_behind c.play_rest-played.result c.play_rest-played.ensures.behind)
 
-pub returns-clause-behind : goal.returns-clause-behind
-returns-clause-behind g c = subst IsNoDescription (sym c.met_of.ensures) (met_behind c.play_rest-played.result c.play_rest-played.ensures.behind)
-
-pub returns-clause-end : goal.returns-clause-end
-returns-clause-end g c = λ done. met_end _ c.play_rest-played.result c.play_rest-played.ensures.end (sym c.met_of.ensures ∙ done)
-
-pub returns-clause-input_cause : goal.returns-clause-input_cause
-returns-clause-input_cause g c = λ e. met_input _ _ c.play_rest-played.result c.play_rest-played.ensures.read_cause (sym c.met_of.ensures ∙ e)
-
-pub returns-clause-air_cause : goal.returns-clause-air_cause
-returns-clause-air_cause g c = λ e. met_air _ _ c.play_rest-played.result c.play_rest-played.ensures.air_cause (sym c.met_of.ensures ∙ e)
+pub returns-clause-met : goal.returns-clause-met
+returns-clause-met g c =
+    let read = c.play_rest-played.ensures.read in
+    let r = c.play_rest-played.result in
+    record {
+      end = λ done. met_end _ r read.end (sym c.met_of.ensures ∙ done);
+      input_cause = λ e. met_input _ _ r read.cause (sym c.met_of.ensures ∙ e);
+      air_cause = λ e. met_air _ _ r c.play_rest-played.ensures.cause (sym c.met_of.ensures ∙ e);
+      same = read.same;
+    }
 
 pub returns-clause-played : goal.returns-clause-played
-returns-clause-played g c = record {
-  behind = record { end = record { desk = c.play_rest-played.new.desk; shift = c.args.start.shift; player = c.play_rest-played.new.player }; folded = length c.entries-folded.result.now };
-  is = refl;
-  folded = ap (λ (l : List Entry). length l) c.entries-folded.ensures.value;
-  shift = refl;
-  stop = c.play_rest-played.result;
-  met = c.met_of.ensures;
-  within = subst (AllByRecursion (λ (entry : Entry). IsStepWithin entry.step)) c.entries.ensures.value c.entries.ensures.within;
-  did = c.play_rest-played.ensures.did;
-  taken = c.play_rest-played.ensures.taken;
-  aired = λ earlier has. c.play_rest-played.ensures.aired earlier (g.A.Sink.written c.args.air.now) has;
-  tallied = c.play_rest-played.ensures.tallied;
-}
-
-pub returns-clause-course : goal.returns-clause-course
-returns-clause-course g c = record {
-  shift = c.requires.shift;
-  ended = λ done. met_ended (c.play_rest-played.new.player.left ≡ []) c.play_rest-played.result c.play_rest-played.ensures.ended (subst (λ (s : Status). is_done s ≡ true) c.met_of.ensures done);
-}
+returns-clause-played g c =
+    let start = c.args.start in
+    let is = c.open-desk.ensures.value in
+    let lean = c.without_journal in
+    let at = begun_at start.desk lean.result start.shift (not c.args.fold) c.open-desk.result is c.open-desk.ensures.made lean.ensures.mux lean.ensures.stands in
+    let rest = c.play_rest-played in
+    let played = rest.ensures.plays start.desk at in
+    let stays = rest.ensures.stays in
+    let shift = stays.shift ∙ ap (λ (d : ScriptDesk). d.shift) is in
+    record {
+      on = record {
+        course = rest.new.course;
+        is = refl;
+        shift = shift;
+        keeps = stays.keeps ∙ ap (λ (d : ScriptDesk). d.keeps) is;
+        stop = rest.result;
+        met = c.met_of.ensures;
+        left = played.0;
+      };
+      stops = subst (λ (n : ℕ). Stops n g.S.Source.left c.args.lines.now rest.new.lines start.desk played.0.now rest.result) shift played.1;
+    }

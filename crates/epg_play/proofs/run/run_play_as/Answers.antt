@@ -21,13 +21,13 @@ returns g c =
     let within : c.in-Ok.lines.limit ≡ limit = ap (λ r. r.limit) c.in-Ok.ensures ∙ c.script_limit-limit.ensures.value in
     let input = gave g.S.Source.left g.S.Source.faults c.args.input.now c.input-2-1.given.0 in
     let run = ran_new limit c.args.how.fold input air report played.result c.finish.result
-    (λ text tells. subst (λ s. PlayedNew limit text (g.S.Source.left s) air.old air.new played.result) (sym same)
-    (subst (λ l. PlayedNew l text (g.S.Source.left played.new.lines.source.now) air.old air.new played.result) within (played.ensures.played text (ap g.S.Source.left old ∙ tells))))
+    (λ text tells. subst (λ s. PlayedNew c.args.how.fold limit text (g.S.Source.left s) air.old air.new played.result) (sym same)
+    (subst (λ l. PlayedNew c.args.how.fold l text (g.S.Source.left played.new.lines.source.now) air.old air.new played.result) within (played.ensures.played text (ap g.S.Source.left old ∙ tells))))
     played.ensures.known
-    (subst (λ s. played.result.met ≡ Done → IsAtEnd (g.S.Source.left s)) (sym same) played.ensures.end)
+    (subst (λ s. played.result.met ≡ Done → IsAtEnd (g.S.Source.left s)) (sym same) played.ensures.met.end)
     (subst (λ s. played.result.met ≡ ReadFault Input → Rose (g.S.Source.faults c.args.input.now) (g.S.Source.faults s)) (sym same)
-    (subst (λ s. played.result.met ≡ ReadFault Input → Rose (g.S.Source.faults s) (g.S.Source.faults played.new.lines.source.now)) old played.ensures.input_cause))
-    played.ensures.air_cause
+    (subst (λ s. played.result.met ≡ ReadFault Input → Rose (g.S.Source.faults s) (g.S.Source.faults played.new.lines.source.now)) old played.ensures.met.input_cause))
+    played.ensures.met.air_cause
     c.finish.ensures in
     record {
       play = λ plain. play_run limit input air report c.finish.result (subst (λ (fold : Bool). NewRun limit fold input air report c.finish.result) plain run);

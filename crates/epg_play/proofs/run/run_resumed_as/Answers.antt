@@ -21,14 +21,14 @@ returns g c =
     let within : c.in-Ok.lines.limit ≡ limit = ap (λ r. r.limit) c.in-Ok.ensures ∙ c.script_limit-limit.ensures.value in
     record {
       run = resume_run limit c.args.path.now c.args.how.fold opener _ air report played.result c.finish.result
-          (λ text tells files has. subst (λ s. PlayedResumed limit c.args.path.now files text (g.S.Source.left s) opener.tried_old opener.tried_new air.old air.new played.result) (sym same)
-          (subst (λ l. PlayedResumed l c.args.path.now files text (g.S.Source.left played.new.lines.source.now) opener.tried_old opener.tried_new air.old air.new played.result) within
+          (λ text tells files has. subst (λ s. PlayedResumed c.args.how.fold limit c.args.path.now files text (g.S.Source.left s) opener air.old air.new played.result) (sym same)
+          (subst (λ l. PlayedResumed c.args.how.fold l c.args.path.now files text (g.S.Source.left played.new.lines.source.now) opener air.old air.new played.result) within
           (played.ensures.played text (ap g.S.Source.left old ∙ tells) files has)))
           played.ensures.known played.ensures.asked
-          (subst (λ s. played.result.met ≡ Done → IsAtEnd (g.S.Source.left s)) (sym same) played.ensures.end)
+          (subst (λ s. played.result.met ≡ Done → IsAtEnd (g.S.Source.left s)) (sym same) played.ensures.met.end)
           (subst (λ s. played.result.met ≡ ReadFault Input → Rose (g.S.Source.faults c.args.input.now) (g.S.Source.faults s)) (sym same)
-          (subst (λ s. played.result.met ≡ ReadFault Input → Rose (g.S.Source.faults s) (g.S.Source.faults played.new.lines.source.now)) old played.ensures.input_cause))
-          played.ensures.open_cause played.ensures.read_cause played.ensures.air_cause
+          (subst (λ s. played.result.met ≡ ReadFault Input → Rose (g.S.Source.faults s) (g.S.Source.faults played.new.lines.source.now)) old played.ensures.met.input_cause))
+          played.ensures.open_cause played.ensures.read_cause played.ensures.met.air_cause
           c.finish.ensures;
     }
 
