@@ -20,7 +20,7 @@ DESCRIPTION = "Zwei Wärter teilen eine Lampe und einen Winter. Als das Boot aus
 
 def stored_reports() -> Dict[str, List[str]]:
     """What `listen` prints of the air of each example, by its run, such as `play < week.txt`."""
-    text = (TOP / "crates" / "example_rows" / "stdout").read_text(encoding="utf-8")
+    text = (TOP / "crates" / "play_rows" / "data" / "examples.kept").read_text(encoding="utf-8")
     return {run: list(row.heard) for run, row in load("shown-outputs").stored_rows(text).items()}
 
 

@@ -110,6 +110,7 @@ class Check(unittest.TestCase):
             top = Path(folder)
             for where, other in (("examples", "b"), (tool.STORED_FILES, "c")):
                 write_files(top, {f"{where}/same.txt": "a", f"{where}/other.txt": other})
+            write_files(top, {tool.STORED: STORED.replace("one.txt", "same.txt").replace("live.txt", "other.txt")})
             self.assertEqual(tool.other_files(top), [f"examples/other.txt is not {tool.STORED_FILES}/other.txt"])
 
     def test_a_status_goes_on_to_the_next_command(self) -> None:

@@ -8,9 +8,10 @@ ghost use Rattle.board_rows.specs.Stages.{IsAtTime};
 use guide_board::{NoService, NowNext, Slot};
 use guide_model::{Event, Events, Genres, ServiceGuide, Txt};
 use page_share::{Page, PageGuide};
-use row_lines::{Row, moment_text, text_of};
+use row_lines::{Row, moment_text, say, text_of};
 use si_time::{Moment, read_duration};
 use std::alloc::{AllocError, Global};
+use std::fmt::Write;
 
 /// 13 October 1993, at midnight.
 const DAY: u64 = 4_257_187_200;
@@ -91,10 +92,7 @@ fn put_slot(row: &mut Row, slot: Option<Slot>) {
     match slot {
         Some(slot) => {
             let start = moment_text(slot.start);
-            row.put_number(" ", u64::from(slot.event));
-            row.put(" ");
-            row.put(text_of(&start[11..19]));
-            row.put_number(" ", u64::from(slot.seconds));
+            say!(row; " {} {} {}", slot.event, text_of(&start[11..19]), slot.seconds);
         }
         None => row.put(" none"),
     }
@@ -105,12 +103,11 @@ pub fn put_answer(row: &mut Row, answer: Result<NowNext, NoService>) {
     row.begin_part();
     match answer {
         Ok(answer) => {
-            row.put_number(" post ", answer.number);
-            row.put(" now");
+            say!(row; " post {} now", answer.number);
             put_slot(row, answer.now);
             row.put(" next");
             put_slot(row, answer.next);
         }
-        Err(NoService(service)) => row.put_number(" no service ", u64::from(service)),
+        Err(NoService(service)) => say!(row; " no service {service}"),
     }
 }

@@ -8,14 +8,11 @@ mod guides;
 mod scenes;
 mod watches;
 
-use row_lines::{Row, run_rows};
+use row_lines::{Row, World, run_rows};
 use std::io;
-use std::marker::Sync;
-use std::sync::Wait;
-use std::thread::Threads;
 
 // Answers a row.
-fn answer<W: Threads + Wait + Sync>(rt: &W, row: &mut Row) {
+fn answer<W: World>(rt: &W, row: &mut Row) {
     match row.word() {
         "board" => scenes::tell(rt, row),
         "watch" => watches::tell(rt, row),

@@ -58,13 +58,11 @@ fn post<W: Wait>(
     ensures board { writer.new.board ≡ writer.old.board }
     ensures services { services_in writer.new.posts ≡ services_in writer.old.posts }
 {
-    match posting(row, word)? {
-        Some((number, guide)) => writer.post(rt, number, &guide),
-        None => {
-            row.refuse();
-            Ok(())
-        }
+    if let Some((number, guide)) = posting(row, word)? {
+        return writer.post(rt, number, &guide);
     }
+    row.refuse();
+    Ok(())
 }
 
 // Asks the viewer for a service, or has it learn what was told last.

@@ -7,11 +7,10 @@ use crate::guides::{guide, moment_of, put_answer};
 use crate::scenes::board_of;
 use guide_board::{BoardWriter, Viewer};
 use page_share::PageGuide;
-use row_lines::Row;
+use row_lines::{Row, World};
 use std::alloc::AllocError;
-use std::marker::Sync;
 use std::sync::Wait;
-use std::thread::{Threads, join};
+use std::thread::join;
 
 // Posts the guide under the numbers from 1 to the last.
 fn post_all<W: Wait>(
@@ -42,7 +41,7 @@ fn never_falls(viewer: &mut Viewer, reads: u64) -> bool {
 }
 
 // The posts and the reads, side by side; then the viewer reads once more, and was told nothing.
-fn side_by_side<W: Threads + Wait + Sync>(
+fn side_by_side<W: World>(
     rt: &W,
     row: &mut Row,
     guide: &PageGuide,
@@ -64,7 +63,7 @@ fn side_by_side<W: Threads + Wait + Sync>(
     posted
 }
 
-fn watch<W: Threads + Wait + Sync>(rt: &W, row: &mut Row) -> Result<(), AllocError> {
+fn watch<W: World>(rt: &W, row: &mut Row) -> Result<(), AllocError> {
     let moment = moment_of(row, "12:45:00");
     let guide = guide(row.alloc(), moment)?;
     match board_of(rt, row.alloc(), 0, &guide)? {
@@ -77,7 +76,7 @@ fn watch<W: Threads + Wait + Sync>(rt: &W, row: &mut Row) -> Result<(), AllocErr
 }
 
 /// What a viewer reads while so many posts are made.
-pub fn tell<W: Threads + Wait + Sync>(rt: &W, row: &mut Row) {
+pub fn tell<W: World>(rt: &W, row: &mut Row) {
     let done = watch(rt, row);
     row.need(done.is_ok());
 }

@@ -38,23 +38,7 @@ fn steps(alloc: Global, lines: &mut Lines, desk: &mut Desk) -> Result<(), AllocE
     Ok(())
 }
 
-// Appends the checkpoint of a desk and of a player that sent nothing.
-fn put_checkpoint(
-    alloc: Global,
-    desk: &Desk,
-    player: &CyclePlayer,
-    shift: u32,
-    out: &mut Buffer,
-) -> Result<(), AllocError>
-    requires { player.now.left ≡ [] }
-{
-    let mut text = Vec::new(alloc);
-    write_checkpoint(alloc, desk, u64::from(shift), player, &mut text)?;
-    out.put_slashes(&text);
-    Ok(())
-}
-
-// Appends the checkpoint of a desk that did the steps of a script.
+// Appends the checkpoint of a desk that did the steps of a script, and of a player that sent nothing.
 fn tell_desk(
     alloc: Global,
     desk: &mut Desk,
@@ -66,20 +50,10 @@ fn tell_desk(
     requires { player.now.left ≡ [] }
 {
     steps(alloc, lines, desk)?;
-    put_checkpoint(alloc, desk, player, shift, out)
-}
-
-// The desk of the multiplex with this number.
-fn desk_of(alloc: Global, number: u32) -> Result<Desk, AllocError> {
-    Desk::open(alloc, mux_of(alloc, number)?)
-}
-
-// The player of the multiplex with this number, which sent nothing.
-fn player_for(alloc: Global, number: u32) -> Result<CyclePlayer, AllocError>
-    ensures { IfOk result (λ player. player.left ≡ []) }
-{
-    let mux = mux_of(alloc, number)?;
-    open_player(alloc, &mux)
+    let mut text = Vec::new(alloc);
+    write_checkpoint(alloc, desk, u64::from(shift), player, &mut text)?;
+    out.put_slashes(&text);
+    Ok(())
 }
 
 fn tell_player(
@@ -92,7 +66,7 @@ fn tell_player(
 ) -> Result<(), AllocError>
     requires { player.now.left ≡ [] }
 {
-    let mut desk = desk_of(alloc, number)?;
+    let mut desk = Desk::open(alloc, mux_of(alloc, number)?)?;
     tell_desk(alloc, &mut desk, player, shift, lines, out)
 }
 
@@ -105,6 +79,7 @@ pub fn tell(
     lines: &mut Lines,
     out: &mut Buffer,
 ) -> Result<(), AllocError> {
-    let player = player_for(alloc, number)?;
+    let mux = mux_of(alloc, number)?;
+    let player = open_player(alloc, &mux)?;
     tell_player(alloc, number, &player, shift, lines, out)
 }

@@ -3,13 +3,14 @@ ghost use Rattle.std.specs.Prelude.{◌≡◌, ◌<◌, ◌^◌, [], None};
 
 use crate::starts::mux_of;
 use desk_checkpoint::{CheckStop, Start, read_checkpoint, write_checkpoint};
-use row_lines::{Buffer, Lines};
+use row_lines::{Buffer, Lines, say};
 use si_causes::ReadStop;
 use std::alloc::{AllocError, Global};
+use std::fmt::Write;
 
 fn put_stop(out: &mut Buffer, stop: CheckStop) {
     match stop {
-        CheckStop::Line(line) => out.say_number("line ", line),
+        CheckStop::Line(line) => say!(out; "line {line}"),
         CheckStop::Read(ReadStop::Failed) => out.say("not read"),
         CheckStop::Read(ReadStop::TooLong) => out.say("too long"),
         CheckStop::Memory => out.note(Err(AllocError)),
@@ -23,8 +24,7 @@ fn put_start(alloc: Global, out: &mut Buffer, start: &Start) -> Result<(), Alloc
 {
     let mut text = Vec::new(alloc);
     write_checkpoint(alloc, &start.desk, start.shift, &start.player, &mut text)?;
-    out.say_number("shift ", start.shift);
-    out.say(", ");
+    say!(out; "shift {}, ", start.shift);
     out.put_slashes(&text);
     Ok(())
 }

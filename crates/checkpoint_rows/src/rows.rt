@@ -4,26 +4,29 @@ use row_lines::{Buffer, Cut, Row, WHOLE, numbered, put_in_short, reader, tell_in
 use si_causes::LineReader;
 use std::alloc::{AllocError, Global};
 
-// Appends what is read of a checkpoint of the multiplex with this number, whose text comes so.
-fn read(alloc: Global, mux: u32, text: &str, cut: Cut, out: &mut Buffer) -> Result<(), AllocError> {
+// As many bytes as a text may have.
+const ANY: u32 = u32::MAX;
+
+// Appends what is read of a checkpoint of the multiplex with this number, whose text comes so and may have so many bytes.
+fn read(
+    alloc: Global,
+    mux: u32,
+    text: &str,
+    cut: Cut,
+    limit: u32,
+    out: &mut Buffer,
+) -> Result<(), AllocError> {
     let source = reader(alloc, text, cut)?.close();
-    let mut lines = LineReader::open(alloc, source)?;
+    let mut lines = LineReader::open_to(alloc, source, u64::from(limit))?;
     reads::tell(alloc, mux, &mut lines, out)
 }
 
 // The same of a text in pieces.
 fn read_whole(alloc: Global, mux: u32, text: &str, out: &mut Buffer) {
     tell_in_pieces(alloc, out, |cut: Cut, out: &mut Buffer| {
-        let done = read(alloc, mux, text, cut, out);
+        let done = read(alloc, mux, text, cut, ANY, out);
         out.note(done);
     });
-}
-
-// Appends what is read of a text that may have so many bytes.
-fn read_to(alloc: Global, limit: u32, text: &str, out: &mut Buffer) -> Result<(), AllocError> {
-    let source = reader(alloc, text, WHOLE)?.close();
-    let mut lines = LineReader::open_to(alloc, source, u64::from(limit))?;
-    reads::tell(alloc, 1, &mut lines, out)
 }
 
 // Appends what the steps of a script leave, with this shift.
@@ -48,8 +51,8 @@ fn tell_numbered(alloc: Global, call: &str, text: &str, out: &mut Buffer) {
         fails_at: number,
     };
     let done = match call {
-        "read_cut" => read(alloc, 1, text, cut, out),
-        "read_to" => read_to(alloc, number, text, out),
+        "read_cut" => read(alloc, 1, text, cut, ANY, out),
+        "read_to" => read(alloc, 1, text, WHOLE, number, out),
         "fold" => fold(alloc, 1, number, text, out),
         "fold_two" => fold(alloc, 2, number, text, out),
         "fold_timed" => fold(alloc, 3, number, text, out),

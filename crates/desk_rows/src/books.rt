@@ -43,17 +43,12 @@ fn reply_to(book: &mut Book, item: &ScriptItem, out: &mut Buffer) -> bool
     let ScriptItem::Step(_, Step::Edit(feed, edit)) = item else {
         return false;
     };
-    match book.edit(*feed, edit) {
-        Ok(reply) => {
-            put_reply(out, reply);
-            out.say("; ");
-            true
-        }
-        Err(error) => {
-            out.note(Err(error));
-            false
-        }
-    }
+    let Some(reply) = out.made(book.edit(*feed, edit)) else {
+        return false;
+    };
+    put_reply(out, reply);
+    out.say("; ");
+    true
 }
 
 // Appends the reply to the next edit, or the stop; whether there may be more.
@@ -76,14 +71,6 @@ pub fn tell_replies(alloc: Global, lines: &mut Lines, book: &mut Book, out: &mut
     }
 }
 
-// Appends what stands.
-fn put_standing(book: &Book, out: &mut Buffer) {
-    match book.guide(AT) {
-        Ok(guide) => put_guide(out, &guide),
-        Err(error) => out.note(Err(error)),
-    }
-}
-
 /// Appends what the copy of the copy of what pages show has.
 pub fn put_pages_of(shared: &PageGuide, out: &mut Buffer) -> Result<(), AllocError> {
     let guide = shared.copy()?;
@@ -101,10 +88,13 @@ fn put_pages(book: &mut Book, out: &mut Buffer) -> Result<(), AllocError> {
 // Appends what stands, and what the pages show that the book shares where they show something else.
 fn put_both(alloc: Global, book: &mut Book, out: &mut Buffer) {
     let mut standing = Buffer::open(alloc);
-    put_standing(book, &mut standing);
+    if let Some(guide) = standing.made(book.guide(AT)) {
+        put_guide(&mut standing, &guide);
+    }
     let mut pages = Buffer::open(alloc);
     let done = put_pages(book, &mut pages);
     out.note(done);
+    out.note_of(&standing);
     out.put(standing.as_slice());
     if pages.as_slice() != standing.as_slice() {
         out.say("; pages: ");
@@ -114,11 +104,8 @@ fn put_both(alloc: Global, book: &mut Book, out: &mut Buffer) {
 
 /// Appends the replies to the edits of a script, and then what stands.
 pub fn tell(alloc: Global, lines: &mut Lines, out: &mut Buffer) {
-    match opened(alloc, TWO_SERVICES) {
-        Ok(mut book) => {
-            tell_replies(alloc, lines, &mut book, out);
-            put_both(alloc, &mut book, out);
-        }
-        Err(error) => out.note(Err(error)),
+    if let Some(mut book) = out.made(opened(alloc, TWO_SERVICES)) {
+        tell_replies(alloc, lines, &mut book, out);
+        put_both(alloc, &mut book, out);
     }
 }

@@ -9,8 +9,9 @@ use journal_model::Step;
 use journal_text::{ScriptItem, next_item};
 use mux_config::read_mux;
 use mux_model::Mux;
-use row_lines::{Buffer, Lines, WHOLE, reader};
+use row_lines::{Buffer, Lines, WHOLE, reader, say};
 use std::alloc::{AllocError, Global};
+use std::fmt::Write;
 
 // Service 101 of feed 1; the desk starts on 13 October 1993 at 12:45.
 const ONE_SERVICE: &str =
@@ -35,17 +36,12 @@ fn opened(alloc: Global) -> Result<Desk, AllocError> {
 fn answer_to(desk: &mut Desk, who: u32, step: Step, out: &mut Buffer) -> bool
     requires { IsStepWithin step }
 {
-    match desk.step(who, step) {
-        Ok(outcome) => {
-            put_outcome(out, outcome);
-            out.say("; ");
-            true
-        }
-        Err(error) => {
-            out.note(Err(error));
-            false
-        }
-    }
+    let Some(outcome) = out.made(desk.step(who, step)) else {
+        return false;
+    };
+    put_outcome(out, outcome);
+    out.say("; ");
+    true
 }
 
 // Does the next step, and appends its outcome or the stop; whether there may be more.
@@ -61,8 +57,11 @@ fn tell_next(alloc: Global, lines: &mut Lines, desk: &mut Desk, out: &mut Buffer
 }
 
 // Appends the number, the moments and the services of an airing.
-fn put_airing(out: &mut Buffer, airing: &Airing) {
-    out.say_number("publication ", airing.number);
+fn put_airing(out: &mut Buffer, airing: Result<Airing, AllocError>) {
+    let Some(airing) = out.made(airing) else {
+        return;
+    };
+    say!(out; "publication {}", airing.number);
     put_moment(out, " at ", airing.moment);
     put_moment(out, ", made at ", airing.guide.moment());
     for i in 0..airing.guide.len() {
@@ -70,34 +69,15 @@ fn put_airing(out: &mut Buffer, airing: &Airing) {
     }
 }
 
-fn put_on_air(desk: &Desk, out: &mut Buffer) {
-    match desk.on_air() {
-        Ok(airing) => put_airing(out, &airing),
-        Err(error) => out.note(Err(error)),
-    }
-}
-
-fn put_latest(desk: &Desk, out: &mut Buffer) {
-    match desk.latest() {
-        Ok(airing) => put_airing(out, &airing),
-        Err(error) => out.note(Err(error)),
-    }
-}
-
-fn put_draft(desk: &Desk, out: &mut Buffer) {
-    match desk.draft() {
-        Ok(guide) => put_guide(out, &guide),
-        Err(error) => out.note(Err(error)),
-    }
-}
-
 fn put_state(desk: &Desk, out: &mut Buffer) {
     out.say("on air ");
-    put_on_air(desk, out);
+    put_airing(out, desk.on_air());
     out.say("; latest ");
-    put_latest(desk, out);
+    put_airing(out, desk.latest());
     out.say("; draft: ");
-    put_draft(desk, out);
+    if let Some(guide) = out.made(desk.draft()) {
+        put_guide(out, &guide);
+    }
     put_moment(out, "; now ", desk.now());
 }
 
@@ -112,8 +92,7 @@ fn tell_desk(alloc: Global, lines: &mut Lines, desk: &mut Desk, out: &mut Buffer
 
 /// Appends the outcomes of the steps of a script, and then what is on air, what is latest and what a publish would freeze.
 pub fn tell(alloc: Global, lines: &mut Lines, out: &mut Buffer) {
-    match opened(alloc) {
-        Ok(mut desk) => tell_desk(alloc, lines, &mut desk, out),
-        Err(error) => out.note(Err(error)),
+    if let Some(mut desk) = out.made(opened(alloc)) {
+        tell_desk(alloc, lines, &mut desk, out);
     }
 }

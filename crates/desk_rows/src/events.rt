@@ -1,50 +1,40 @@
 // Guides in words.
 use crate::edits::put_genre;
-use crate::words::{put_moment, put_quoted};
+use crate::words::put_moment;
 use guide_model::{Event, Guide, ServiceGuide};
-use row_lines::Buffer;
+use row_lines::{Buffer, say, text_of};
+use std::fmt::Write;
 
 // An event without its rating and its genres.
 fn put_front(out: &mut Buffer, event: &Event) {
-    out.say_number(": event ", u64::from(event.id));
+    say!(out; ": event {}", event.id);
     put_moment(out, " at ", event.start);
-    out.say_number(" for ", u64::from(event.seconds));
-    out.say(" s in ");
-    out.put(&event.language);
-    put_quoted(out, event.name.as_str());
-    put_quoted(out, event.short.as_str());
-    put_quoted(out, event.extended.as_str());
+    say!(out; " for {} s in {}", event.seconds, text_of(&event.language));
+    let (name, short, extended) = (&event.name, &event.short, &event.extended);
+    say!(out; " \"{}\" \"{}\" \"{}\"", name.as_str(), short.as_str(), extended.as_str());
 }
 
 fn put_event(out: &mut Buffer, event: &Event) {
     put_front(out, event);
     if let Some(rating) = &event.rating {
-        out.say(", rated ");
-        out.put(&rating.country);
-        out.say_number(" ", u64::from(rating.value));
+        say!(out; ", rated {} {}", text_of(&rating.country), rating.value);
     }
     for genre in event.genres.as_slice() {
         put_genre(out, genre);
     }
 }
 
-// Appends events; of more than nine their number.
-fn put_events(out: &mut Buffer, events: &[Event]) {
+/// Appends the names and events of a service; of more than nine events their number.
+pub fn put_service(out: &mut Buffer, service: &ServiceGuide) {
+    let (provider, name) = (service.provider.as_str(), service.name.as_str());
+    say!(out; "; service {} \"{provider}\" \"{name}\"", service.service);
+    let events = service.events.as_slice();
     if 9 < events.len() {
-        out.say_number(": ", events.len() as u64);
-        return out.say(" events");
+        return say!(out; ": {} events", events.len());
     }
     for event in events {
         put_event(out, event);
     }
-}
-
-/// Appends the names and events of a service.
-pub fn put_service(out: &mut Buffer, service: &ServiceGuide) {
-    out.say_number("; service ", u64::from(service.service));
-    put_quoted(out, service.provider.as_str());
-    put_quoted(out, service.name.as_str());
-    put_events(out, service.events.as_slice());
 }
 
 /// Appends a guide.

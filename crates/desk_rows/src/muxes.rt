@@ -1,36 +1,22 @@
 // What descriptions of a multiplex give.
-use crate::words::{put_moment, put_quoted, put_read_stop};
+use crate::words::{put_moment, put_read_stop};
 use guide_model::{Cable, Component, Offset};
 use mux_config::{MuxFault, MuxStop, Word, read_mux};
 use mux_model::{Mux, MuxService, Other, RemoteService};
-use row_lines::{Buffer, Lines};
+use row_lines::{Buffer, Lines, say, text_of};
 use std::alloc::{AllocError, Global};
+use std::fmt::Write;
 
 fn put_fault(out: &mut Buffer, fault: MuxFault) {
     match fault {
-        MuxFault::Line(line) => {
-            out.say_number("line ", line);
-            out.say(" is no record");
-        }
-        MuxFault::Range(line) => {
-            out.say_number("line ", line);
-            out.say(" is out of range");
-        }
-        MuxFault::Twice(line, earlier) => {
-            out.say_number("line ", line);
-            out.say_number(" repeats line ", earlier);
-        }
-        MuxFault::Missing(word) => put_missing(out, word),
+        MuxFault::Line(line) => say!(out; "line {line} is no record"),
+        MuxFault::Range(line) => say!(out; "line {line} is out of range"),
+        MuxFault::Twice(line, earlier) => say!(out; "line {line} repeats line {earlier}"),
+        MuxFault::Missing(Word::Network) => out.say("network missing"),
+        MuxFault::Missing(Word::Stream) => out.say("stream missing"),
+        MuxFault::Missing(Word::Service) => out.say("service missing"),
+        MuxFault::Missing(Word::End) => out.say("end missing"),
     }
-}
-
-fn put_missing(out: &mut Buffer, word: Word) {
-    out.say(match word {
-        Word::Network => "network missing",
-        Word::Stream => "stream missing",
-        Word::Service => "service missing",
-        Word::End => "end missing",
-    });
 }
 
 fn put_stop(out: &mut Buffer, stop: MuxStop) {
@@ -41,88 +27,56 @@ fn put_stop(out: &mut Buffer, stop: MuxStop) {
     }
 }
 
-fn put_cable(out: &mut Buffer, cable: &Cable) {
-    out.say_number("; cable frequency ", u64::from(cable.frequency));
-    out.say_number(", modulation ", u64::from(cable.modulation));
-    out.say_number(", symbol rate ", u64::from(cable.symbol_rate));
-    out.say_number(", outer ", u64::from(cable.fec_outer));
-    out.say_number(", inner ", u64::from(cable.fec_inner));
-}
-
-fn put_component(out: &mut Buffer, component: &Component) {
-    out.say_number(", component ", u64::from(component.pid));
-    out.say_number(" of type ", u64::from(component.stream_type));
-    if let Some(language) = &component.language {
-        out.say(" in ");
-        out.put(language);
+fn put_cable(out: &mut Buffer, cable: Option<&Cable>) {
+    if let Some(cable) = cable {
+        let (outer, inner) = (cable.fec_outer, cable.fec_inner);
+        say!(out; "; cable frequency {}, modulation {}", cable.frequency, cable.modulation);
+        say!(out; ", symbol rate {}, outer {outer}, inner {inner}", cable.symbol_rate);
     }
 }
 
-// The components of a service; of more than nine their number.
-fn put_components(out: &mut Buffer, components: &[Component]) {
+fn put_component(out: &mut Buffer, component: &Component) {
+    say!(out; ", component {} of type {}", component.pid, component.stream_type);
+    if let Some(language) = &component.language {
+        say!(out; " in {}", text_of(language));
+    }
+}
+
+// A service; of more than nine components their number.
+fn put_service(out: &mut Buffer, service: &MuxService) {
+    let (provider, name) = (service.provider.as_str(), service.name.as_str());
+    say!(out; "; service {} of feed {}, type {}", service.service, service.feed, service.kind);
+    say!(out; ", PMT {}, PCR {}, \"{provider}\" \"{name}\"", service.pmt_pid, service.pcr_pid);
+    let components = service.components.as_slice();
     if 9 < components.len() {
-        out.say_number(", ", components.len() as u64);
-        return out.say(" components");
+        return say!(out; ", {} components", components.len());
     }
     for component in components {
         put_component(out, component);
     }
 }
 
-fn put_service(out: &mut Buffer, service: &MuxService) {
-    out.say_number("; service ", u64::from(service.service));
-    out.say_number(" of feed ", u64::from(service.feed));
-    out.say_number(", type ", u64::from(service.kind));
-    out.say_number(", PMT ", u64::from(service.pmt_pid));
-    out.say_number(", PCR ", u64::from(service.pcr_pid));
-    out.say(",");
-    put_quoted(out, service.provider.as_str());
-    put_quoted(out, service.name.as_str());
-    put_components(out, service.components.as_slice());
-}
-
-// The network and the stream.
-fn put_stream(out: &mut Buffer, mux: &Mux) {
-    out.say_number("network ", u64::from(mux.network));
-    put_quoted(out, mux.network_name.as_str());
-    out.say_number("; stream ", u64::from(mux.stream));
-    out.say_number(" of ", u64::from(mux.original));
-    if let Some(cable) = &mux.cable {
-        put_cable(out, cable);
-    }
-}
-
 fn put_offset(out: &mut Buffer, offset: &Offset) {
-    out.say("; ");
-    out.put(&offset.country);
-    out.say_number(" ", u64::from(offset.region));
-    out.say_number(" ", u64::from(offset.minutes));
-    out.say(if offset.behind {
-        " minutes behind, from "
-    } else {
-        " minutes ahead, from "
-    });
+    let (country, side) = (
+        text_of(&offset.country),
+        if offset.behind { "behind" } else { "ahead" },
+    );
+    say!(out; "; {country} {} {} minutes {side}, from ", offset.region, offset.minutes);
     put_moment(out, "", offset.change);
-    out.say_number(" on ", u64::from(offset.next));
+    say!(out; " on {}", offset.next);
 }
 
 fn put_remote(out: &mut Buffer, service: &RemoteService) {
-    out.say_number("; remote ", u64::from(service.service));
-    out.say_number(" of feed ", u64::from(service.feed));
-    out.say_number(", type ", u64::from(service.kind));
-    out.say(",");
-    put_quoted(out, service.provider.as_str());
-    put_quoted(out, service.name.as_str());
+    let (provider, name) = (service.provider.as_str(), service.name.as_str());
+    say!(out; "; remote {} of feed {}", service.service, service.feed);
+    say!(out; ", type {}, \"{provider}\" \"{name}\"", service.kind);
 }
 
 fn put_other(out: &mut Buffer, other: &Other) {
-    out.say_number("; other ", u64::from(other.stream));
-    out.say_number(" of ", u64::from(other.original));
-    if let Some(cable) = &other.cable {
-        put_cable(out, cable);
-    }
+    say!(out; "; other {} of {}", other.stream, other.original);
+    put_cable(out, other.cable.as_ref());
     let remotes = other.services.as_slice();
-    put_each(out, remotes, " remote services", put_remote);
+    put_each(out, remotes, "remote services", put_remote);
 }
 
 // Each of these; of more than nine their number and the last.
@@ -133,8 +87,7 @@ fn put_each<T, F: Fn(&mut Buffer, &T)>(out: &mut Buffer, items: &[T], name: &str
     if let [.., last] = items
         && 9 < count
     {
-        out.say_number("; ", count as u64);
-        out.say(name);
+        say!(out; "; {count} {name}");
         return put(out, last);
     }
     for item in items {
@@ -143,31 +96,24 @@ fn put_each<T, F: Fn(&mut Buffer, &T)>(out: &mut Buffer, items: &[T], name: &str
 }
 
 fn put_mux(out: &mut Buffer, mux: &Mux) {
-    put_stream(out, mux);
+    say!(out; "network {} \"{}\"", mux.network, mux.network_name.as_str());
+    say!(out; "; stream {} of {}", mux.stream, mux.original);
+    put_cable(out, mux.cable.as_ref());
     put_moment(out, "; start ", mux.start);
-    out.say_number("; quota ", u64::from(mux.quota));
+    say!(out; "; quota {}", mux.quota);
     if let Some(rate) = mux.rate {
-        out.say_number("; rate ", u64::from(rate));
+        say!(out; "; rate {rate}");
     }
-    put_each(out, mux.offsets.as_slice(), " offsets", put_offset);
-    put_each(out, mux.services.as_slice(), " services", put_service);
-    put_each(out, mux.others.as_slice(), " other streams", put_other);
-}
-
-// The copy of a multiplex.
-fn put_copy(out: &mut Buffer, mux: &Mux) {
-    match mux.copy() {
-        Ok(copy) => put_mux(out, &copy),
-        Err(error) => out.note(Err(error)),
-    }
+    put_each(out, mux.offsets.as_slice(), "offsets", put_offset);
+    put_each(out, mux.services.as_slice(), "services", put_service);
+    put_each(out, mux.others.as_slice(), "other streams", put_other);
 }
 
 // The line after the description, where there is one.
 fn put_behind(lines: &mut Lines, out: &mut Buffer) {
     match lines.next() {
         Ok(Some(number)) => {
-            out.say_number("; line ", number);
-            out.say(" is ahead: ");
+            say!(out; "; line {number} is ahead: ");
             out.put(lines.line());
         }
         Ok(None) => {}
@@ -178,10 +124,14 @@ fn put_behind(lines: &mut Lines, out: &mut Buffer) {
     }
 }
 
-/// Appends what the description gives.
+/// Appends what the copy of a description gives.
 pub fn tell(alloc: Global, lines: &mut Lines, out: &mut Buffer) {
     match read_mux(alloc, lines) {
-        Ok(mux) => put_copy(out, &mux),
+        Ok(mux) => {
+            if let Some(copy) = out.made(mux.copy()) {
+                put_mux(out, &copy);
+            }
+        }
         Err(stop) => return put_stop(out, stop),
     }
     put_behind(lines, out);

@@ -25,12 +25,11 @@ pub fn tell(alloc: Global, lines: &mut Lines, out: &mut Buffer) {
     if lines.next().is_err() {
         return out.say("no row");
     }
-    match fields(alloc, lines.line()) {
-        Ok(Some(fields)) => match read_outcome(fields.as_slice()) {
-            Some(outcome) => put_both(alloc, outcome, out),
-            None => out.say("none"),
-        },
-        Ok(None) => out.say("no row"),
-        Err(error) => out.note(Err(error)),
+    let Some(Some(fields)) = out.made(fields(alloc, lines.line())) else {
+        return out.say("no row");
+    };
+    match read_outcome(fields.as_slice()) {
+        Some(outcome) => put_both(alloc, outcome, out),
+        None => out.say("none"),
     }
 }

@@ -27,15 +27,8 @@ fn tell_edits(
     put_pages_of(publication, out)
 }
 
-// Appends what the next publication shows.
-fn tell_next(book: &mut Book, out: &mut Buffer) -> Result<(), AllocError> {
-    out.say("; ");
-    let next = book.shared(AT)?;
-    put_pages_of(&next, out)
-}
-
-// Appends the replies to edits before a publication, and then what it shows.
-fn tell_publication(
+// Appends the replies to edits before a publication, what it shows, and what the next publication shows.
+fn tell_book(
     alloc: Global,
     lines: &mut Lines,
     book: &mut Book,
@@ -43,28 +36,17 @@ fn tell_publication(
 ) -> Result<(), AllocError> {
     tell_replies(alloc, lines, book, out);
     let publication = book.shared(AT)?;
-    tell_edits(alloc, lines, book, &publication, out)
-}
-
-// The same, and what the next publication shows.
-fn tell_book(
-    alloc: Global,
-    lines: &mut Lines,
-    book: &mut Book,
-    out: &mut Buffer,
-) -> Result<(), AllocError> {
-    tell_publication(alloc, lines, book, out)?;
-    tell_next(book, out)
+    tell_edits(alloc, lines, book, &publication, out)?;
+    out.say("; ");
+    let next = book.shared(AT)?;
+    put_pages_of(&next, out)
 }
 
 /// Appends the replies to the edits of a script up to its publish, what is published, the replies to the edits after it, what that
 /// publication shows then, and what the next one shows.
 pub fn tell(alloc: Global, lines: &mut Lines, out: &mut Buffer) {
-    match opened(alloc, THREE_SERVICES) {
-        Ok(mut book) => {
-            let done = tell_book(alloc, lines, &mut book, out);
-            out.note(done);
-        }
-        Err(error) => out.note(Err(error)),
+    if let Some(mut book) = out.made(opened(alloc, THREE_SERVICES)) {
+        let done = tell_book(alloc, lines, &mut book, out);
+        out.note(done);
     }
 }

@@ -1,7 +1,8 @@
 // A row and its answer.
 use crate::{books, controls, desks, edits, entries, muxes, outcomes, publications, scripts};
-use row_lines::{Buffer, Cut, Lines, Row, numbered, put_in_short, reader, tell_in_pieces};
+use row_lines::{Buffer, Cut, Lines, Row, numbered, put_in_short, reader, say, tell_in_pieces};
 use std::alloc::Global;
+use std::fmt::Write;
 
 // A description of two services, without its end.
 const TWO_SERVICES: &str =
@@ -22,7 +23,7 @@ fn tell_lines(alloc: Global, call: &str, lines: &mut Lines, out: &mut Buffer) {
     }
 }
 
-// The calls that have a number before the text.
+// The calls that have a number before the text, of a caller or a field.
 fn tell_numbered(alloc: Global, call: &str, number: u32, lines: &mut Lines, out: &mut Buffer) {
     if call == "edit" {
         edits::tell_from(alloc, number, lines, out);
@@ -31,40 +32,26 @@ fn tell_numbered(alloc: Global, call: &str, number: u32, lines: &mut Lines, out:
     }
 }
 
-// Appends what a call gives for a text that comes so.
-fn tell_text(alloc: Global, call: &str, text: &str, cut: Cut, out: &mut Buffer) {
-    match reader(alloc, text, cut) {
-        Ok(mut lines) => tell_lines(alloc, call, &mut lines, out),
-        Err(error) => out.note(Err(error)),
+// The number of a caller or a field that the text of such a call begins with, and what stands after it.
+fn parts_of<'r>(call: &str, text: &'r str) -> Option<(Option<u32>, &'r str)> {
+    if call != "edit" && call != "entry" {
+        return Some((None, text));
     }
-}
-
-// The number that a text begins with, of a caller or a field, and what stands after it and a space.
-fn called(text: &str) -> Option<(u32, &str)> {
     let (number, text) = text.split_once(' ').unwrap_or((text, ""));
-    match number.parse::<u32>() {
-        Ok(number) => Some((number, text)),
-        Err(_) => None,
-    }
-}
-
-// The same for a call with a number before its text.
-fn tell_behind(alloc: Global, call: &str, text: &str, cut: Cut, out: &mut Buffer) {
-    let Some((number, text)) = called(text) else {
-        return out.say("no row");
-    };
-    match reader(alloc, text, cut) {
-        Ok(mut lines) => tell_numbered(alloc, call, number, &mut lines, out),
-        Err(error) => out.note(Err(error)),
-    }
+    Some((Some(number.parse::<u32>().ok()?), text))
 }
 
 // Appends what a call gives for a text that comes so.
 fn tell(alloc: Global, call: &str, text: &str, cut: Cut, out: &mut Buffer) {
-    if call == "edit" || call == "entry" {
-        tell_behind(alloc, call, text, cut, out);
-    } else {
-        tell_text(alloc, call, text, cut, out);
+    let Some((number, text)) = parts_of(call, text) else {
+        return out.say("no row");
+    };
+    let Some(mut lines) = out.made(reader(alloc, text, cut)) else {
+        return;
+    };
+    match number {
+        Some(number) => tell_numbered(alloc, call, number, &mut lines, out),
+        None => tell_lines(alloc, call, &mut lines, out),
     }
 }
 
@@ -85,9 +72,7 @@ fn cut_of(row: &str) -> Option<(Cut, &str)> {
 // Appends what the description of two services gives with these lines and an end after it.
 fn tell_more(alloc: Global, text: &str, out: &mut Buffer) {
     let mut more = Buffer::open(alloc);
-    more.say(TWO_SERVICES);
-    more.say(text);
-    more.say("/end/");
+    say!(more; "{TWO_SERVICES}{text}/end/");
     tell_whole(alloc, "mux", more.text(), out);
 }
 

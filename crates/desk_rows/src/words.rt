@@ -1,22 +1,15 @@
 // Parts of answers in words.
 use journal_model::{DayFault, Field, Outcome, Reply};
-use row_lines::{Buffer, moment_text};
+use row_lines::{Buffer, moment_text, say, text_of};
 use script_lines::EditStop;
 use si_causes::ReadStop;
 use si_time::Moment;
 use std::alloc::AllocError;
+use std::fmt::Write;
 
 /// Appends a text, and a moment after it.
 pub fn put_moment(out: &mut Buffer, text: &str, at: Moment) {
-    out.say(text);
-    out.put(&moment_text(at));
-}
-
-/// Appends a text in quotes after a blank.
-pub fn put_quoted(out: &mut Buffer, text: &str) {
-    out.say(" \"");
-    out.say(text);
-    out.say("\"");
+    say!(out; "{text}{}", text_of(&moment_text(at)));
 }
 
 /// Appends why a reader stopped.
@@ -30,10 +23,7 @@ pub fn put_read_stop(out: &mut Buffer, stop: ReadStop) {
 /// Appends why no edit, control line or item was read.
 pub fn put_edit_stop(out: &mut Buffer, stop: EditStop) {
     match stop {
-        EditStop::NoCommand(line) => {
-            out.say_number("line ", line);
-            out.say(" refused");
-        }
+        EditStop::NoCommand(line) => say!(out; "line {line} refused"),
         EditStop::Read(stop) => put_read_stop(out, stop),
         EditStop::Memory => out.note(Err(AllocError)),
     }
@@ -60,20 +50,18 @@ fn field_word(field: Field) -> &'static str {
 }
 
 fn put_range(out: &mut Buffer, field: Field) {
-    out.say("range ");
-    out.say(field_word(field));
+    say!(out; "range {}", field_word(field));
     if let Field::Count(n) | Field::Segment(n) = field {
-        out.say_number(" ", u64::from(n));
+        say!(out; " {n}");
     }
 }
 
 // Appends why the item at this place of a day is not taken.
 fn put_member(out: &mut Buffer, place: u16, fault: DayFault) {
-    out.say_number("member ", u64::from(place));
-    out.say(" ");
+    say!(out; "member {place} ");
     match fault {
         DayFault::Range(field) => put_range(out, field),
-        DayFault::Overlap(event) => out.say_number("overlap ", u64::from(event)),
+        DayFault::Overlap(event) => say!(out; "overlap {event}"),
     }
 }
 
@@ -81,9 +69,9 @@ fn put_member(out: &mut Buffer, place: u16, fault: DayFault) {
 pub fn put_reply(out: &mut Buffer, reply: Reply) {
     match reply {
         Reply::Done => out.say("done"),
-        Reply::Foreign(service) => out.say_number("foreign ", u64::from(service)),
+        Reply::Foreign(service) => say!(out; "foreign {service}"),
         Reply::Range(field) => put_range(out, field),
-        Reply::Overlap(event) => out.say_number("overlap ", u64::from(event)),
+        Reply::Overlap(event) => say!(out; "overlap {event}"),
         Reply::Member(place, fault) => put_member(out, place, fault),
     }
 }
@@ -94,9 +82,9 @@ pub fn put_outcome(out: &mut Buffer, outcome: Outcome) {
         Outcome::Edited(reply) => put_reply(out, reply),
         Outcome::Ticked => out.say("ticked"),
         Outcome::Late(at) => put_moment(out, "late ", at),
-        Outcome::Published(number) => out.say_number("published ", number),
+        Outcome::Published(number) => say!(out; "published {number}"),
         Outcome::Swapped(number, at) => {
-            out.say_number("swapped ", number);
+            say!(out; "swapped {number}");
             put_moment(out, " at ", at);
         }
     }

@@ -5,19 +5,16 @@ ghost use Rattle.eit_segments.specs.Schedule.{CanBePlaced};
 use crate::events::read_events;
 use crate::placeable::can_be_placed;
 use eit_segments::{EventAt, Piece, present_following, segments};
-use row_lines::Row;
+use row_lines::{Row, say};
 use si_time::{Moment, read_day, read_moment};
+use std::fmt::Write;
 
 // A section: its table in hex, its number, the last of its table and that of its segment, and the
 // places of its events.
 fn put_piece(row: &mut Row, piece: &Piece) {
     row.begin_part();
-    row.put_byte(" ", piece.table);
-    row.put_number(" ", u64::from(piece.number));
-    row.put_number(" ", u64::from(piece.last));
-    row.put_number(" ", u64::from(piece.segment_last));
-    row.put_number(" ", piece.from as u64);
-    row.put_number("..", piece.to as u64);
+    say!(row; " {:02X} {} {}", piece.table, piece.number, piece.last);
+    say!(row; " {} {}..{}", piece.segment_last, piece.from, piece.to);
 }
 
 // The sections of a schedule.
@@ -25,13 +22,11 @@ fn put_sections(row: &mut Row, events: &[EventAt], day: Moment)
     requires day { day.0 % 86400 ≡ 0 }
     requires events { CanBePlaced events.now }
 {
-    match segments(row.alloc(), events, day) {
-        Ok(pieces) => {
-            for piece in pieces.as_slice() {
-                put_piece(row, piece);
-            }
+    let pieces = segments(row.alloc(), events, day);
+    if let Some(pieces) = row.made(pieces) {
+        for piece in pieces.as_slice() {
+            put_piece(row, piece);
         }
-        Err(_) => row.lack_memory(),
     }
 }
 
@@ -39,7 +34,7 @@ fn put_sections(row: &mut Row, events: &[EventAt], day: Moment)
 fn put_place(row: &mut Row, name: &str, place: Option<usize>) {
     row.put(name);
     match place {
-        Some(place) => row.put_number(" ", place as u64),
+        Some(place) => say!(row; " {place}"),
         None => row.put(" -"),
     }
 }
@@ -54,8 +49,7 @@ fn put_both(row: &mut Row, events: &[EventAt], at: Moment)
 }
 
 /// What a row gives: `segments DAY | EVENTS` or `present_following MOMENT | EVENTS`.
-pub fn answer(row: &mut Row) {
-    let call = row.word();
+pub fn answer(row: &mut Row, call: &str) {
     let when = row.word().as_bytes();
     row.pass("|");
     let events = read_events(row);

@@ -1,6 +1,5 @@
 // Sums of bytes, and bytes taken from their front.
-use crate::notation::{append, bytes, put_hex};
-use crate::row::{number_below, number_in};
+use crate::notation::{append, number_below, number_in, put_hex};
 use row_lines::Row;
 use si_base::{Reader, crc32};
 
@@ -33,7 +32,7 @@ pub fn take(row: &mut Row) {
     if row.call().is_empty() {
         return row.refuse();
     }
-    let bytes = bytes(row);
+    let bytes = row.rest_bytes();
     let mut reader = Reader::open(&bytes);
     let mut is_first = true;
     for count in counts.split(',') {

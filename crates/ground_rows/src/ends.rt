@@ -2,7 +2,7 @@
 // call with this number, from 0, fails; `-` is no call.
 ghost use Rattle.std.specs.Prelude.{◌<◌};
 
-use crate::row::number_in;
+use crate::notation::number_in;
 use row_lines::Row;
 use si_causes::{MemSink, MemSource};
 use std::alloc::{AllocError, Global};

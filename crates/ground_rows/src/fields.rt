@@ -1,16 +1,13 @@
 // Fields of lines, and numbers and words in them.
-use crate::notation::{bytes, put_written, text};
-use crate::row::{number_below, put_number_or_none};
+use crate::notation::{number_below, put_number_or_none, put_written, text};
 use input_lines::{LineFields, fields, is_word, number, numeral};
-use row_lines::Row;
+use row_lines::{Row, put_read, say};
+use std::fmt::Write;
 
 /// The fields of a line.
 pub fn put_fields(row: &mut Row, line: &[u8]) {
-    match fields(row.alloc(), line) {
-        Ok(Some(fields)) => put_all(row, &fields),
-        Ok(None) => row.put(" none"),
-        Err(_) => row.lack_memory(),
-    }
+    let fields = fields(row.alloc(), line);
+    put_read(row, fields, " none", put_all);
 }
 
 fn put_all(row: &mut Row, fields: &LineFields) {
@@ -28,8 +25,7 @@ fn put_all(row: &mut Row, fields: &LineFields) {
 // A field, or how many bytes it has where these are more than 100.
 fn put_field(row: &mut Row, field: &str) {
     if field.len() > 100 {
-        row.put_number(" ", field.len() as u64);
-        return row.put(" bytes");
+        return say!(row; " {} bytes", field.len());
     }
     put_written(row, field.as_bytes());
 }
@@ -43,7 +39,7 @@ pub fn put_numeral(row: &mut Row, text: &str) {
 pub fn put_number(row: &mut Row) {
     let low = number_below(row, 1 << 32) as u32;
     let high = number_below(row, 1 << 32) as u32;
-    let bytes = bytes(row);
+    let bytes = row.rest_bytes();
     let text = text(row, &bytes);
     put_number_or_none(row, number(text, low, high).map(u64::from));
 }
@@ -51,7 +47,7 @@ pub fn put_number(row: &mut Row) {
 /// Whether a field is a word: of the word and the field.
 pub fn put_is_word(row: &mut Row) {
     let wanted = row.word();
-    let bytes = bytes(row);
+    let bytes = row.rest_bytes();
     let text = text(row, &bytes);
     row.put(if is_word(text, wanted) { " yes" } else { " no" });
 }

@@ -2,42 +2,23 @@
 ghost use Rattle.std.specs.Prelude.{◌<◌};
 
 use crate::ends::{ends, piece, source};
-use crate::notation::bytes;
 use packet_finder::{FindStop, Finder, Found};
-use row_lines::Row;
+use row_lines::{Row, say};
 use si_causes::{MemSource, Source};
 use std::alloc::{AllocError, Global};
-
-fn put_packet(row: &mut Row, number: u64, packet: &[u8; 188]) {
-    row.put_number(" ", number);
-    row.put_byte(":", packet[1]);
-}
-
-fn put_passed(row: &mut Row, count: u64) {
-    row.put_number(" (", count);
-    row.put(")");
-}
-
-// Why there is no further piece.
-fn put_end(row: &mut Row, stop: Option<FindStop>) {
-    match stop {
-        None => row.put(" end"),
-        Some(FindStop::Failed) => row.put(" failed"),
-        Some(FindStop::TooLong) => row.put(" too long"),
-    }
-}
+use std::fmt::Write;
 
 // Puts the next piece, or why there is none. Whether there may be more.
 fn put_next<S: Source>(row: &mut Row, finder: &mut Finder<S>) -> bool {
     match finder.next() {
-        Ok(Some(Found::Packet(number))) => put_packet(row, number, finder.packet()),
-        Ok(Some(Found::Junk(count))) => put_passed(row, count),
-        Ok(None) => {
-            put_end(row, None);
-            return false;
-        }
-        Err(stop) => {
-            put_end(row, Some(stop));
+        Ok(Some(Found::Packet(number))) => say!(row; " {number}:{:02X}", finder.packet()[1]),
+        Ok(Some(Found::Junk(count))) => say!(row; " ({count})"),
+        stopped => {
+            row.put(match stopped {
+                Err(FindStop::Failed) => " failed",
+                Err(FindStop::TooLong) => " too long",
+                _ => " end",
+            });
             return false;
         }
     }
@@ -70,13 +51,13 @@ fn open(
 /// What is found in these bytes, which come in pieces of each of these sizes.
 pub fn put_each(row: &mut Row) {
     let (pieces, fails) = ends(row);
-    let recording = bytes(row);
+    let recording = row.rest_bytes();
     for size in pieces.split(',') {
         row.begin_part();
         let piece = piece(row, size);
-        match open(row.alloc(), &recording, piece, fails) {
-            Ok(mut finder) => put_found(row, &mut finder),
-            Err(_) => row.lack_memory(),
+        let finder = open(row.alloc(), &recording, piece, fails);
+        if let Some(mut finder) = row.made(finder) {
+            put_found(row, &mut finder);
         }
     }
 }

@@ -2,16 +2,17 @@
 ghost use Rattle.std.specs.Prelude.{◌<◌};
 
 use crate::ends::{ends, piece, source};
-use crate::notation::{bytes, put_written};
+use crate::notation::put_written;
 use input_lines::{next_record_line, passes_over};
-use row_lines::Row;
+use row_lines::{Row, say};
 use si_causes::{LineReader, MemSource, ReadStop, Source};
 use std::alloc::{AllocError, Global};
+use std::fmt::Write;
 
 /// Appends what a call for the next line answers.
 pub fn put_answer(row: &mut Row, found: Result<Option<u64>, ReadStop>) {
     match found {
-        Ok(Some(number)) => row.put_number(" line ", number),
+        Ok(Some(number)) => say!(row; " line {number}"),
         Ok(None) => row.put(" end"),
         Err(ReadStop::Failed) => row.put(" failed"),
         Err(ReadStop::TooLong) => row.put(" too long"),
@@ -34,7 +35,7 @@ fn put_line(row: &mut Row, line: &[u8]) {
     match line {
         [first, ..] if line.len() > 100 && line.iter().all(|b| b == first) => {
             put_written(row, &[*first]);
-            row.put_number("*", line.len() as u64);
+            say!(row; "*{}", line.len());
         }
         _ => put_written(row, line),
     }
@@ -73,10 +74,8 @@ fn put_next_record<S: Source>(row: &mut Row, lines: &mut LineReader<S>) -> bool 
         put_answer(row, found);
         return false;
     };
-    row.put_number(" ", number);
-    if passes_over(lines.line()) {
-        row.put("?");
-    }
+    let sign = if passes_over(lines.line()) { "?" } else { "" };
+    say!(row; " {number}{sign}");
     true
 }
 
@@ -102,7 +101,7 @@ fn put_read(row: &mut Row, bytes: &[u8], piece: usize, fails: u64, are_records: 
 /// What is read of bytes that come in pieces of each of these sizes: their records, or their lines.
 pub fn put_each(row: &mut Row, are_records: bool) {
     let (pieces, fails) = ends(row);
-    let bytes = bytes(row);
+    let bytes = row.rest_bytes();
     for size in pieces.split(',') {
         row.begin_part();
         let piece = piece(row, size);

@@ -1,38 +1,23 @@
 // Texts of loads, as their length and the CRC_32 of their bytes.
-use crate::row::number_below;
-use row_lines::Row;
+use crate::notation::number_below;
+use row_lines::{Row, say};
 use si_base::crc32;
 use si_workload::{made_control, made_feed, made_mux};
-use std::alloc::AllocError;
+use std::fmt::Write;
 
-fn put_sum(row: &mut Row, text: Result<Vec<u8>, AllocError>) {
-    match text {
-        Ok(text) => {
-            row.put_number(" ", text.len() as u64);
-            row.put_number(" bytes, CRC ", u64::from(crc32(&text)));
-        }
-        Err(_) => row.lack_memory(),
-    }
-}
-
-/// The multiplex of a load.
-pub fn put_mux(row: &mut Row) {
-    let number = number_below(row, 1_000_000_000);
-    put_sum(row, made_mux(row.alloc(), number));
-}
-
-/// The control lines of a load.
-pub fn put_control(row: &mut Row) {
-    let number = number_below(row, 1_000_000_000);
-    put_sum(row, made_control(row.alloc(), number));
-}
-
-/// The edits of feed 1 or 2 of a load.
-pub fn put_feed(row: &mut Row) {
-    let number = number_below(row, 1_000_000_000);
-    match row.word() {
-        "1" => put_sum(row, made_feed(row.alloc(), number, 1)),
-        "2" => put_sum(row, made_feed(row.alloc(), number, 2)),
-        _ => row.refuse(),
+/// The multiplex of a load, its control lines, or the edits of its feed 1 or 2.
+pub fn put_made(row: &mut Row, call: &str) {
+    let (number, alloc) = (number_below(row, 1_000_000_000), row.alloc());
+    let text = match call {
+        "made_mux" => made_mux(alloc, number),
+        "made_control" => made_control(alloc, number),
+        _ => match row.word() {
+            "1" => made_feed(alloc, number, 1),
+            "2" => made_feed(alloc, number, 2),
+            _ => return row.refuse(),
+        },
+    };
+    if let Some(text) = row.made(text) {
+        say!(row; " {} bytes, CRC {}", text.len(), crc32(&text));
     }
 }

@@ -5,23 +5,20 @@
 #![tactic(auto)]
 
 mod bytes;
-mod durations;
 mod ends;
 mod fields;
 mod finds;
 mod lines;
 mod loads;
-mod moments;
 mod notation;
 mod pages;
 mod recordings;
-mod row;
 mod sinks;
 mod sources;
 mod texts;
+mod times;
 
 use row_lines::{Row, run_rows};
-use si_time::{read_day, read_duration, read_moment};
 use std::io;
 use std::thread::Threads;
 
@@ -47,20 +44,14 @@ fn answer_of_numbers(row: &mut Row, call: &str) {
     match call {
         "crc32_of_mixed" => bytes::put_crc_of_mixed(row),
         "take" => bytes::take(row),
-        "write_moment" => moments::put_text(row),
-        "to_bcd" => moments::put_bcd(row),
-        "midnight" => moments::put_midnight(row),
-        "block_of" => moments::put_block(row),
-        "write_duration" => durations::put_text(row),
-        "duration_bcd" => durations::put_bcd(row),
+        "write_moment" | "to_bcd" | "midnight" | "block_of" => times::put_of_number(row, call),
+        "write_duration" | "duration_bcd" => times::put_of_number(row, call),
         "number" => fields::put_number(row),
         "is_word" => fields::put_is_word(row),
-        "made_mux" => loads::put_mux(row),
-        "made_control" => loads::put_control(row),
-        "made_feed" => loads::put_feed(row),
+        "made_mux" | "made_control" | "made_feed" => loads::put_made(row, call),
         "plain_bytes" => texts::put_plain_bytes(row),
         _ => {
-            let bytes = notation::bytes(row);
+            let bytes = row.rest_bytes();
             answer_of_bytes(row, call, &bytes);
         }
     }
@@ -70,14 +61,10 @@ fn answer_of_numbers(row: &mut Row, call: &str) {
 fn answer_of_bytes(row: &mut Row, call: &str, bytes: &[u8]) {
     match call {
         "crc32" => bytes::put_crc(row, bytes),
-        "read_moment" => moments::put_seconds(row, read_moment(bytes)),
-        "read_day" => moments::put_seconds(row, read_day(bytes)),
-        "from_bcd" => moments::put_of_bcd(row, bytes),
-        "read_duration" => durations::put_seconds(row, read_duration(bytes)),
-        "duration_from_bcd" => durations::put_of_bcd(row, bytes),
+        "read_moment" | "read_day" | "from_bcd" => times::put_seconds(row, call, bytes),
+        "read_duration" | "duration_from_bcd" => times::put_seconds(row, call, bytes),
         "fields" => fields::put_fields(row, bytes),
-        "decode_text" => texts::put_decoded(row, bytes),
-        "write_shown" => texts::put_shown_again(row, bytes),
+        "decode_text" | "write_shown" => texts::put_decoded(row, call, bytes),
         "never_fails" => sinks::put_front(row, bytes),
         "reader" => sources::put_reader(row, bytes),
         _ => {

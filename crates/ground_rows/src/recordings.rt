@@ -2,12 +2,12 @@
 ghost use Rattle.std.specs.Prelude.{◌<◌};
 
 use crate::ends::{ends, piece, source};
-use crate::notation::{append, bytes};
-use crate::row::number_below;
+use crate::notation::{append, number_below};
 use packet_reader::{PacketReader, PacketStop};
-use row_lines::Row;
+use row_lines::{Row, say};
 use si_causes::{MemSource, Source};
 use std::alloc::{AllocError, Global};
+use std::fmt::Write;
 
 // How many packets a reader gave, a number made of their second bytes, and how it stopped.
 #[derive(Clone, Copy)]
@@ -52,7 +52,7 @@ fn put_stop(row: &mut Row, stop: Option<PacketStop>) {
     match stop {
         None => row.put(", end"),
         Some(PacketStop::Failed) => row.put(", failed"),
-        Some(PacketStop::Broken(number)) => row.put_number(", broken ", number),
+        Some(PacketStop::Broken(number)) => say!(row; ", broken {number}"),
         Some(PacketStop::TooLong) => row.put(", too long"),
     }
 }
@@ -60,8 +60,7 @@ fn put_stop(row: &mut Row, stop: Option<PacketStop>) {
 // Appends what is heard, and also how the next call stops where that is otherwise.
 fn put_heard<S: Source>(row: &mut Row, reader: &mut PacketReader<S>) {
     let heard = hear(reader);
-    row.put_number(" ", heard.packets);
-    row.put_number(" of ", heard.second);
+    say!(row; " {} of {}", heard.packets, heard.second);
     put_stop(row, heard.stop);
     let again = reader.next().err();
     if again != heard.stop {
@@ -78,15 +77,6 @@ fn open(
     requires { 0 < piece }
 {
     PacketReader::open(alloc, source(alloc, bytes, piece, fails)?)
-}
-
-fn put_read(row: &mut Row, bytes: &[u8], piece: usize, fails: u64)
-    requires { 0 < piece }
-{
-    match open(row.alloc(), bytes, piece, fails) {
-        Ok(mut reader) => put_heard(row, &mut reader),
-        Err(_) => row.lack_memory(),
-    }
 }
 
 // So many whole packets, the second byte of each its number, and then these bytes.
@@ -106,11 +96,14 @@ fn packets(row: &mut Row, count: u64, behind: &[u8]) -> Vec<u8> {
 pub fn put_each(row: &mut Row) {
     let count = number_below(row, 10_000);
     let (pieces, fails) = ends(row);
-    let behind = bytes(row);
+    let behind = row.rest_bytes();
     let recording = packets(row, count, &behind);
     for size in pieces.split(',') {
         row.begin_part();
         let piece = piece(row, size);
-        put_read(row, &recording, piece, fails);
+        let reader = open(row.alloc(), &recording, piece, fails);
+        if let Some(mut reader) = row.made(reader) {
+            put_heard(row, &mut reader);
+        }
     }
 }

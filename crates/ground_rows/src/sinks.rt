@@ -3,9 +3,10 @@ ghost use Rattle.std.specs.Prelude.{◌<◌};
 
 use crate::ends::{ends, piece, sink};
 use crate::notation::{append, put_written};
-use row_lines::Row;
+use row_lines::{Row, say};
 use si_causes::{Failed, MemOpener, MemSink, NeverFails, Opener, Source, write_all};
 use std::alloc::{AllocError, Global};
+use std::fmt::Write;
 
 fn put_whole(row: &mut Row, whole: Result<(), Failed>) {
     row.put(if whole.is_ok() { " whole" } else { " failed" });
@@ -22,15 +23,15 @@ fn put_writes(row: &mut Row, sink: &mut MemSink) {
 pub fn put_sink(row: &mut Row) {
     let (size, fails) = ends(row);
     let piece = piece(row, size);
-    match sink(row.alloc(), piece, fails) {
-        Ok(mut sink) => put_writes(row, &mut sink),
-        Err(_) => row.lack_memory(),
+    let sink = sink(row.alloc(), piece, fails);
+    if let Some(mut sink) = row.made(sink) {
+        put_writes(row, &mut sink);
     }
 }
 
 fn put_count(row: &mut Row, count: Result<usize, Failed>) {
     match count {
-        Ok(count) => row.put_number(" ", count as u64),
+        Ok(count) => say!(row; " {count}"),
         Err(_) => row.put(" failed"),
     }
 }

@@ -3,11 +3,11 @@ ghost use Rattle.std.specs.Prelude.{◌≤◌, ◌<◌, None};
 
 use crate::ends::{NEVER, piece, source};
 use crate::lines::put_answer;
-use crate::notation::{bytes, put_written};
-use crate::row::number_below;
-use row_lines::Row;
+use crate::notation::{number_below, put_written};
+use row_lines::{Row, say};
 use si_causes::{Failed, LineReader, MemSource, Source};
 use std::alloc::{AllocError, Global};
+use std::fmt::Write;
 use std_streams::ReaderSource;
 
 // A source of so many bytes `a`.
@@ -38,13 +38,11 @@ impl Source for Repeated {
 /// What the first three calls answer of a text of so many bytes without a line's end.
 pub fn put_long(row: &mut Row) {
     let left = number_below(row, 100_000_000);
-    match LineReader::open(row.alloc(), Repeated { left }) {
-        Ok(mut lines) => {
-            for _ in 0..3 {
-                put_answer(row, lines.next());
-            }
+    let lines = LineReader::open(row.alloc(), Repeated { left });
+    if let Some(mut lines) = row.made(lines) {
+        for _ in 0..3 {
+            put_answer(row, lines.next());
         }
-        Err(_) => row.lack_memory(),
     }
 }
 
@@ -95,10 +93,10 @@ fn calls(alloc: Global, bytes: &[u8], piece: usize, count: u64) -> Result<u64, A
 pub fn put_calls(row: &mut Row) {
     let size = row.word();
     let (piece, count) = (piece(row, size), number_below(row, 1_000));
-    let bytes = bytes(row);
-    match calls(row.alloc(), &bytes, piece, count) {
-        Ok(calls) => row.put_number(" ", calls),
-        Err(_) => row.lack_memory(),
+    let bytes = row.rest_bytes();
+    let calls = calls(row.alloc(), &bytes, piece, count);
+    if let Some(calls) = row.made(calls) {
+        say!(row; " {calls}");
     }
 }
 

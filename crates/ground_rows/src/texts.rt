@@ -4,7 +4,7 @@ use crate::notation::{append, put_written};
 use guide_model::{
     Shown, Txt, append_text, coded_len, cut_len, decode_text, encode_text, is_plain_byte,
 };
-use row_lines::Row;
+use row_lines::{Row, put_read};
 use si_base::Copies;
 
 /// What a call gives for a text.
@@ -22,24 +22,20 @@ pub fn answer(row: &mut Row, call: &str, text: &str) {
 }
 
 fn put_kept(row: &mut Row, text: &str) {
-    match Txt::of(row.alloc(), text) {
-        Ok(Some(text)) => put_copy(row, &text),
-        Ok(None) => row.put(" none"),
-        Err(_) => row.lack_memory(),
-    }
+    let text = Txt::of(row.alloc(), text);
+    put_read(row, text, " none", put_copy);
 }
 
 fn put_copy(row: &mut Row, text: &Txt) {
-    match text.copy() {
-        Ok(copy) => put_written(row, copy.as_str().as_bytes()),
-        Err(_) => row.lack_memory(),
+    if let Some(copy) = row.made(text.copy()) {
+        put_written(row, copy.as_str().as_bytes());
     }
 }
 
 fn put_encoded(row: &mut Row, text: &str) {
-    match encode_text(row.alloc(), text) {
-        Ok(coded) => put_written(row, coded.as_slice()),
-        Err(_) => row.lack_memory(),
+    let coded = encode_text(row.alloc(), text);
+    if let Some(coded) = row.made(coded) {
+        put_written(row, coded.as_slice());
     }
 }
 
@@ -58,56 +54,35 @@ pub fn put_plain_bytes(row: &mut Row) {
 fn put_appended(row: &mut Row, text: &str) {
     let mut out = Vec::new(row.alloc());
     append(row, &mut out, b"<");
-    if append_text(text, &mut out).is_err() {
-        row.lack_memory();
-    }
+    row.need(append_text(text, &mut out).is_ok());
     put_written(row, &out);
 }
 
-/// The text that bytes are decoded to.
-pub fn put_decoded(row: &mut Row, bytes: &[u8]) {
-    match decode_text(row.alloc(), bytes) {
-        Ok(shown) => put_shown(row, &shown),
-        Err(_) => row.lack_memory(),
-    }
-}
-
-fn put_shown(row: &mut Row, shown: &Shown) {
-    match shown {
-        Shown::Text(text) => {
+/// The text that bytes are decoded to, or with a call `write_shown` how many bytes its copy has, and what it is appended as, behind `<`.
+pub fn put_decoded(row: &mut Row, call: &str, bytes: &[u8]) {
+    let shown = decode_text(row.alloc(), bytes);
+    match row.made(shown) {
+        Some(shown) if call == "write_shown" => put_copy_shown(row, &shown),
+        Some(Shown::Text(text)) => {
             row.put(" text");
             put_written(row, text.as_str().as_bytes());
         }
-        Shown::Hex(bytes) => {
+        Some(Shown::Hex(bytes)) => {
             row.put(" hex");
             put_written(row, bytes.as_slice());
         }
-    }
-}
-
-/// What the copy of a decoded text is written as.
-pub fn put_shown_again(row: &mut Row, bytes: &[u8]) {
-    match decode_text(row.alloc(), bytes) {
-        Ok(shown) => put_copy_shown(row, &shown),
-        Err(_) => row.lack_memory(),
+        None => {}
     }
 }
 
 fn put_copy_shown(row: &mut Row, shown: &Shown) {
-    match shown.copy() {
-        Ok(copy) => put_size_and_bytes(row, &copy),
-        Err(_) => row.lack_memory(),
-    }
-}
-
-// How many bytes this has, and what it is appended as, behind `<`.
-fn put_size_and_bytes(row: &mut Row, shown: &Shown) {
+    let Some(copy) = row.made(shown.copy()) else {
+        return;
+    };
     let mut out = Vec::new(row.alloc());
     append(row, &mut out, b"<");
-    if shown.append_to(&mut out).is_err() {
-        row.lack_memory();
-    }
-    row.put_number(" ", shown.coded_len() as u64);
+    row.need(copy.append_to(&mut out).is_ok());
+    row.put_number(" ", copy.coded_len() as u64);
     put_written(row, &out);
 }
 

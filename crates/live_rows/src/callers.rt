@@ -4,16 +4,15 @@ ghost use Rattle.mux_model.specs.Sound.{IsSound};
 ghost use Rattle.desk_hall.specs.Turn.{KeepsNumbers};
 
 use crate::halls::two_services;
-use crate::journals::{put_edits, put_steps_of};
+use crate::words::{put_entries, put_steps_of};
 use desk_core::Desk;
 use headend_live::{Hall, HallPass};
+use journal_model::{Entry, Step};
 use mux_model::Mux;
-use row_gates::Holding;
-use row_lines::{Buffer, WHOLE, reader};
+use row_lines::{Buffer, Holding, WHOLE, World, reader};
 use std::alloc::{AllocError, Global};
-use std::marker::Sync;
 use std::sync::Wait;
-use std::thread::{Threads, join};
+use std::thread::join;
 
 // Does the edits of a feed, and then publishes and swaps. Where memory for its text is wanting, it does nothing.
 fn run_caller<W: Wait>(
@@ -38,7 +37,7 @@ fn run_caller<W: Wait>(
 }
 
 // The desk that two callers leave of these texts.
-fn desk_of<W: Threads + Wait + Sync>(
+fn desk_of<W: World>(
     rt: &W,
     alloc: Global,
     mux: Mux,
@@ -59,7 +58,7 @@ fn desk_of<W: Threads + Wait + Sync>(
 }
 
 /// Appends the steps of each of two callers: of a feed's lines each, and then a publish and a swap.
-pub fn tell<W: Threads + Wait + Sync>(
+pub fn tell<W: World>(
     rt: &W,
     alloc: Global,
     texts: (&str, &str),
@@ -73,7 +72,7 @@ pub fn tell<W: Threads + Wait + Sync>(
 }
 
 /// Appends the journal that they leave under a gate that holds these places, but for the publishes and swaps.
-pub fn tell_held<W: Threads + Wait + Sync>(
+pub fn tell_held<W: World>(
     rt: &W,
     alloc: Global,
     holds: &str,
@@ -82,7 +81,9 @@ pub fn tell_held<W: Threads + Wait + Sync>(
 ) -> Result<(), AllocError> {
     let gate = Holding::of(alloc, holds)?;
     let desk = desk_of(rt, alloc, two_services(alloc)?, texts, &gate)?;
-    put_edits(out, desk.entries());
+    put_entries(out, desk.entries(), |entry: &Entry| {
+        matches!(entry.step, Step::Edit(_, _))
+    });
     out.say(if gate.gave_up() { "gave up" } else { "end" });
     Ok(())
 }

@@ -6,24 +6,22 @@ ghost use Rattle.journal_model.specs.Steps.{IsStepWithin};
 ghost use Rattle.desk_hall.specs.Turn.{KeepsNumbers};
 
 use crate::halls::two_services;
-use crate::journals::put_entries;
-use crate::words::{put_outcome, put_reply};
+use crate::words::{put_entries, put_outcome, put_reply};
 use desk_core::Airing;
 use headend_live::{Hall, HallPass};
 use journal_model::Step;
 use journal_text::{ScriptItem, next_item};
 use mux_model::Mux;
-use row_lines::{Buffer, Lines, WHOLE, reader};
+use row_lines::{Buffer, Lines, WHOLE, reader, say};
 use std::alloc::{AllocError, Global};
+use std::fmt::Write;
 use std::sync::Wait;
 
 // Appends the number of what went on air, and the name of its first service.
 fn put_airing(out: &mut Buffer, airing: &Airing) {
-    out.say_number("airs ", airing.number);
+    say!(out; "airs {}", airing.number);
     if airing.guide.len() > 0 {
-        out.say(" \"");
-        out.say(airing.guide.at(0).name.as_str());
-        out.say("\"");
+        say!(out; " \"{}\"", airing.guide.at(0).name.as_str());
     }
 }
 
@@ -100,7 +98,7 @@ fn tell_hall<W: Wait>(
     tell_steps(rt, alloc, &hall, &mut pass, lines, out)?;
     let desk = hall.close(pass);
     out.say("journal ");
-    put_entries(out, desk.entries());
+    put_entries(out, desk.entries(), |_| true);
     Ok(())
 }
 

@@ -3,8 +3,7 @@ ghost use Rattle.std.specs.Prelude.{◌≡◌};
 ghost use Rattle.mux_model.specs.Sound.{IsSound};
 
 use crate::halls::two_services;
-use crate::journals::put_entries;
-use crate::words::put_stop;
+use crate::words::{put_entries, put_stop};
 use headend_live::{Hall, HallPass};
 use mux_model::Mux;
 use row_lines::{Buffer, Lines};
@@ -12,18 +11,11 @@ use si_causes::OpenGate;
 use std::alloc::{AllocError, Global};
 use std::sync::Wait;
 
-/// Whether a job reads as feed 1 or as the control.
-#[derive(Clone, Copy, PartialEq, Eq)]
-pub enum Reads {
-    Feed,
-    Control,
-}
-
 // Appends what one job leaves of a hall that has no other caller.
 fn tell_job<W: Wait>(
     rt: &W,
     alloc: Global,
-    reads: Reads,
+    is_feed: bool,
     mux: Mux,
     lines: &mut Lines,
     out: &mut Buffer,
@@ -31,23 +23,24 @@ fn tell_job<W: Wait>(
     requires { IsSound mux }
 {
     let (hall, mut pass) = Hall::open(alloc, mux, 1)?;
-    let stop = match reads {
-        Reads::Feed => hall.feed(rt, alloc, &mut pass, 1, lines, &OpenGate),
-        Reads::Control => hall.control(rt, alloc, &mut pass, lines),
+    let stop = if is_feed {
+        hall.feed(rt, alloc, &mut pass, 1, lines, &OpenGate)
+    } else {
+        hall.control(rt, alloc, &mut pass, lines)
     };
     let desk = hall.close(pass);
-    put_entries(out, desk.entries());
+    put_entries(out, desk.entries(), |_| true);
     put_stop(out, stop);
     Ok(())
 }
 
-/// Appends the journal that a job leaves, and why it ended.
+/// Appends the journal that a job leaves which reads as feed 1 or as the control, and why it ended.
 pub fn tell<W: Wait>(
     rt: &W,
     alloc: Global,
-    reads: Reads,
+    is_feed: bool,
     lines: &mut Lines,
     out: &mut Buffer,
 ) -> Result<(), AllocError> {
-    tell_job(rt, alloc, reads, two_services(alloc)?, lines, out)
+    tell_job(rt, alloc, is_feed, two_services(alloc)?, lines, out)
 }

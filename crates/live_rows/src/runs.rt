@@ -3,17 +3,14 @@ ghost use Rattle.std.specs.Prelude.{◌≡◌, ◌≤◌, [], length, IfOk};
 ghost use Rattle.mux_model.specs.Sound.{IsSound};
 
 use crate::halls::two_services;
-use crate::journals::{put_others, put_steps_of};
-use crate::words::put_stop;
+use crate::words::{put_entries, put_steps_of, put_stop};
 use headend_live::{DoneLine, LiveEnd, LivePlan, LiveStop, Numbers, Readers, run_live};
+use journal_model::Entry;
 use mux_model::Mux;
-use row_gates::Holding;
-use row_lines::{Buffer, Lines, WHOLE, reader};
+use row_lines::{Buffer, Holding, Lines, WHOLE, World, reader, say};
 use si_causes::{MemSink, MemSource};
 use std::alloc::{AllocError, Global};
-use std::marker::Sync;
-use std::sync::Wait;
-use std::thread::Threads;
+use std::fmt::Write;
 
 /// A run: its plan, the texts of the control and of the two feeds, the number of the write to the air that fails, and what its gate
 /// holds.
@@ -48,7 +45,7 @@ fn feeds_of(alloc: Global, run: &Run) -> Result<Readers<MemSource>, AllocError>
 }
 
 // What a run of these readers leaves.
-fn ended<W: Threads + Wait + Sync>(
+fn ended<W: World>(
     rt: &W,
     mux: Mux,
     plan: Plan,
@@ -65,7 +62,7 @@ fn ended<W: Threads + Wait + Sync>(
     run_live(rt, plan.alloc, mux, plan.live, feeds, control, air, gate)
 }
 
-fn ended_of<W: Threads + Wait + Sync>(
+fn ended_of<W: World>(
     rt: &W,
     alloc: Global,
     run: &Run,
@@ -92,8 +89,7 @@ fn put_live_stop(out: &mut Buffer, stop: Option<LiveStop>) {
             put_stop(out, Some(stop));
         }
         Some(LiveStop::Feed(feed, stop)) => {
-            out.say_number("feed ", u64::from(feed));
-            out.say(": ");
+            say!(out; "feed {feed}: ");
             put_stop(out, Some(stop));
         }
         Some(LiveStop::Memory) => out.note(Err(AllocError)),
@@ -104,8 +100,7 @@ fn put_live_stop(out: &mut Buffer, stop: Option<LiveStop>) {
 fn put_dones(out: &mut Buffer, dones: &[DoneLine]) {
     out.say("dones");
     for done in dones {
-        out.say_number(" ", done.packet);
-        out.say_number(":", u64::from(done.version));
+        say!(out; " {}:{}", done.packet, done.version);
     }
     out.say("; ");
 }
@@ -114,19 +109,18 @@ fn put_end(out: &mut Buffer, end: &Left, taken: &[u8]) {
     for who in 0..4 {
         put_steps_of(out, who, end.desk.entries());
     }
-    out.say_number("packets ", (taken.len() / 188) as u64);
-    out.say("; ");
+    say!(out; "packets {}; ", taken.len() / 188);
     put_dones(out, end.dones.as_slice());
     put_live_stop(out, end.stop);
 }
 
 fn put_order(out: &mut Buffer, end: &Left, gate: &Holding) {
-    put_others(out, end.desk.entries());
+    put_entries(out, end.desk.entries(), |entry: &Entry| entry.who > 0);
     out.say(if gate.gave_up() { "gave up" } else { "end" });
 }
 
 // Appends the steps of each caller, the air and the completions, and why the run stopped; or the journal in its order.
-fn tell_over<W: Threads + Wait + Sync>(
+fn tell_over<W: World>(
     rt: &W,
     alloc: Global,
     run: &Run,
@@ -145,7 +139,7 @@ fn tell_over<W: Threads + Wait + Sync>(
 }
 
 /// Appends what a run leaves.
-pub fn tell<W: Threads + Wait + Sync>(
+pub fn tell<W: World>(
     rt: &W,
     alloc: Global,
     run: &Run,

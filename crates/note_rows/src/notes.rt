@@ -7,11 +7,12 @@ ghost use Rattle.script_notes.specs.Whys.{CanBeSaid};
 
 use input_lines::EditStop;
 use journal_model::{Outcome, Step};
-use row_lines::{Buffer, Cut};
+use row_lines::{Buffer, Cut, reader, say};
 use script_lines::ScriptItem;
 use script_notes::{Held, Noting, Why, next_noting, put_why};
-use si_causes::{LineReader, MemSource, ReadStop, Source};
-use std::alloc::Global;
+use si_causes::{LineReader, ReadStop, Source};
+use std::alloc::{AllocError, Global};
+use std::fmt::Write;
 
 fn put_step(out: &mut Buffer, step: &Step) {
     out.say(match step {
@@ -35,8 +36,7 @@ fn put_words(alloc: Global, out: &mut Buffer, why: &Why)
 fn put_kept(alloc: Global, out: &mut Buffer, line: u64, kept: Outcome)
     requires { IsInWindow kept }
 {
-    out.say_number("line ", line);
-    out.say(" ");
+    say!(out; "line {line} ");
     put_words(alloc, out, &Why::Disagrees(kept, Outcome::Ticked));
 }
 
@@ -46,8 +46,7 @@ fn put_item(alloc: Global, out: &mut Buffer, item: &ScriptItem) -> Option<bool>
 {
     match item {
         ScriptItem::Step(who, step) => {
-            out.say_number("caller ", u64::from(*who));
-            out.say(": ");
+            say!(out; "caller {who}: ");
             put_step(out, step);
             Some(true)
         }
@@ -69,8 +68,7 @@ fn put_noting(alloc: Global, out: &mut Buffer, noting: &Noting) -> Option<bool>
     let is_command = match noting {
         Noting::Item(item) => put_item(alloc, out, item)?,
         Noting::Bad(line, why) => {
-            out.say_number("# line ", *line);
-            out.say(": ");
+            say!(out; "# line {line}: ");
             put_words(alloc, out, why);
             false
         }
@@ -105,25 +103,10 @@ fn tell<S: Source>(alloc: Global, lines: &mut LineReader<S>, out: &mut Buffer)
     }
 }
 
-// The bytes of a text, in which a slash stands for LF and a tilde for the byte FF.
-fn bytes_of(alloc: Global, text: &str) -> Option<Vec<u8>> {
-    let mut bytes = Vec::new(alloc);
-    for byte in text.as_bytes() {
-        let byte = match *byte {
-            b'/' => b'\n',
-            b'~' => 0xFF,
-            other => other,
-        };
-        bytes.push(byte).ok()?;
-    }
-    Some(bytes)
-}
-
-/// Appends the notings of a text, which comes in pieces; none where memory is wanting.
-pub fn put_notes(alloc: Global, text: &str, cut: Cut, out: &mut Buffer) -> Option<()> {
-    let bytes = bytes_of(alloc, text)?;
-    let source = MemSource::open(bytes, (cut.piece as usize).max(1), Vec::new(alloc));
-    let mut lines = LineReader::open(alloc, source).ok()?;
+/// Appends the notings of a text, which comes so.
+pub fn put_notes(alloc: Global, text: &str, cut: Cut, out: &mut Buffer) -> Result<(), AllocError> {
+    let source = reader(alloc, text, cut)?.close();
+    let mut lines = LineReader::open(alloc, source)?;
     tell(alloc, &mut lines, out);
-    Some(())
+    Ok(())
 }

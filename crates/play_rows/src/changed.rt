@@ -1,11 +1,8 @@
 // Airs with one change in turn, audited against their script.
 use crate::tally::{Tally, count, no_runs, put_tally};
-use row_lines::Buffer;
-use row_sheets::{cut, put_changed};
+use row_airs::{cut, put_changed};
+use row_lines::{Buffer, World};
 use run_tools::{Bench, NONE};
-use std::marker::Sync;
-use std::sync::Wait;
-use std::thread::Threads;
 
 // The most turns of a row.
 const MOST: u64 = 10_000;
@@ -20,7 +17,7 @@ fn put_turn(out: &mut Buffer, word: &str, turn: u64) -> Option<()> {
 }
 
 // Runs these words over each change of an air, up to the first that it has not.
-fn tally_turns<W: Threads + Wait + Sync>(
+fn tally_turns<W: World>(
     bench: &mut Bench<W>,
     words: &str,
     air: &[u8],
@@ -43,7 +40,7 @@ fn tally_turns<W: Threads + Wait + Sync>(
 }
 
 /// `CHANGE WORDS ; - ; SCRIPT`
-pub fn tell_changes<W: Threads + Wait + Sync>(bench: &mut Bench<W>, row: &str) -> Option<()> {
+pub fn tell_changes<W: World>(bench: &mut Bench<W>, row: &str) -> Option<()> {
     let (change, row) = cut(row);
     let case = bench.take(row)?;
     bench.run("play", NONE);

@@ -1,12 +1,9 @@
 // Scripts that are cut: each part goes on from the checkpoint of what stands before it.
-use row_lines::Buffer;
-use row_sheets::description;
+use row_airs::{description, front_lines};
+use row_lines::{Buffer, World};
 use run_tools::{Bench, NONE};
 use std::alloc::{AllocError, Global};
-use std::marker::Sync;
 use std::mem;
-use std::sync::Wait;
-use std::thread::Threads;
 
 /// After what a script is cut: each swap in turn, each two swaps, or each command.
 #[derive(Clone, Copy, PartialEq, Eq)]
@@ -72,14 +69,7 @@ struct Cutter<'s> {
 
 // The entries of a report, without the line of the rate.
 fn entries_of(report: &str) -> &str {
-    let mut len = 0usize;
-    for line in report.lines() {
-        if line.starts_with("rate,") {
-            break;
-        }
-        len = len.saturating_add(line.len()).saturating_add(1);
-    }
-    report.get(..len).unwrap_or("")
+    front_lines(report, |line: &str| !line.starts_with("rate,"))
 }
 
 fn copy(into: &mut Buffer, bytes: &[u8]) {
@@ -116,7 +106,7 @@ impl<'s> Cutter<'s> {
 
     // Says what stands between two places of the script, after its description, as the input, and the report of the part before, if there
     // was one, as the file.
-    fn say_part<W: Threads + Wait + Sync>(&self, bench: &mut Bench<W>, from: usize, to: usize) {
+    fn say_part<W: World>(&self, bench: &mut Bench<W>, from: usize, to: usize) {
         bench.files.clear();
         if self.parts > 0 {
             bench.set_file(self.report.as_slice());
@@ -127,13 +117,7 @@ impl<'s> Cutter<'s> {
     }
 
     // Runs these words over what stands between two places.
-    fn run_part<W: Threads + Wait + Sync>(
-        &mut self,
-        bench: &mut Bench<W>,
-        words: &str,
-        from: usize,
-        to: usize,
-    ) {
+    fn run_part<W: World>(&mut self, bench: &mut Bench<W>, words: &str, from: usize, to: usize) {
         self.say_part(bench, from, to);
         bench.run(words, NONE);
         self.code = self.code.max(bench.left.code());
@@ -143,12 +127,7 @@ impl<'s> Cutter<'s> {
     }
 
     // Runs the parts of the script cut at these places, each part but the last folded, and the last with these words.
-    fn run_parts<W: Threads + Wait + Sync>(
-        &mut self,
-        bench: &mut Bench<W>,
-        last: &str,
-        places: &[usize],
-    ) {
+    fn run_parts<W: World>(&mut self, bench: &mut Bench<W>, last: &str, places: &[usize]) {
         self.code = 0;
         self.parts = 0;
         self.air.clear();
@@ -164,7 +143,7 @@ impl<'s> Cutter<'s> {
     }
 
     // Keeps what is left of the script that is not cut.
-    fn run_whole<W: Threads + Wait + Sync>(&mut self, bench: &mut Bench<W>) {
+    fn run_whole<W: World>(&mut self, bench: &mut Bench<W>) {
         self.run_parts(bench, "play", &[]);
         copy(&mut self.whole, self.air.as_slice());
         copy(&mut self.journal, self.report.as_slice());
@@ -173,7 +152,7 @@ impl<'s> Cutter<'s> {
     }
 
     // Whether the journal of the last part goes on with that of what stands before it, to the journal of the script.
-    fn is_journal<W: Threads + Wait + Sync>(&self, bench: &mut Bench<W>, place: usize) -> bool {
+    fn is_journal<W: World>(&self, bench: &mut Bench<W>, place: usize) -> bool {
         let before = self.script.get(..place).unwrap_or("");
         bench.run_over("play", before.as_bytes());
         let front = entries_of(bench.left.report_text());
@@ -186,7 +165,7 @@ impl<'s> Cutter<'s> {
     }
 
     // Whether `audit` takes the airs joined.
-    fn is_audited<W: Threads + Wait + Sync>(&self, bench: &mut Bench<W>) -> bool {
+    fn is_audited<W: World>(&self, bench: &mut Bench<W>) -> bool {
         copy(&mut bench.input, self.script.as_bytes());
         bench.set_file(self.air.as_slice());
         bench.run("audit/--air=1", NONE);
@@ -198,7 +177,7 @@ impl<'s> Cutter<'s> {
     }
 
     // Counts a cut at these places.
-    fn try_cut<W: Threads + Wait + Sync>(&mut self, bench: &mut Bench<W>, places: &[usize]) {
+    fn try_cut<W: World>(&mut self, bench: &mut Bench<W>, places: &[usize]) {
         let all_ended = self.ended;
         self.run_parts(bench, "play/--resume=1", places);
         let has_air = self.has_air();
@@ -222,12 +201,7 @@ impl<'s> Cutter<'s> {
     }
 
     // Counts the cuts at each of these places, or at each two of them.
-    fn try_cuts<W: Threads + Wait + Sync>(
-        &mut self,
-        bench: &mut Bench<W>,
-        cut: Cut,
-        places: &[usize],
-    ) {
+    fn try_cuts<W: World>(&mut self, bench: &mut Bench<W>, cut: Cut, places: &[usize]) {
         for (k, place) in places.iter().enumerate() {
             if cut != Cut::TwoSwaps {
                 self.try_cut(bench, &[*place]);
@@ -240,7 +214,7 @@ impl<'s> Cutter<'s> {
     }
 }
 
-fn put_cuts<W: Threads + Wait + Sync>(bench: &mut Bench<W>, cut: Cut, script: &str) -> Option<()> {
+fn put_cuts<W: World>(bench: &mut Bench<W>, cut: Cut, script: &str) -> Option<()> {
     let places = places_of(bench.alloc, script, cut).ok()?;
     let mut cutter = Cutter::open(bench.alloc, script);
     cutter.run_whole(bench);
@@ -250,11 +224,7 @@ fn put_cuts<W: Threads + Wait + Sync>(bench: &mut Bench<W>, cut: Cut, script: &s
 }
 
 /// `SCRIPT`: how many cuts there are of it, and in how many of them each thing is as it has to be.
-pub fn tell_cuts<W: Threads + Wait + Sync>(
-    bench: &mut Bench<W>,
-    cut: Cut,
-    source: &str,
-) -> Option<()> {
+pub fn tell_cuts<W: World>(bench: &mut Bench<W>, cut: Cut, source: &str) -> Option<()> {
     bench.make(source)?;
     let script = mem::replace(&mut bench.made, Buffer::open(bench.alloc));
     put_cuts(bench, cut, script.text())

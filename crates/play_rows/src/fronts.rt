@@ -1,10 +1,8 @@
 // Runs in which each call of an end fails in turn: what they leave is a front of what a whole run leaves.
 use epg_cli::Status;
-use row_lines::{Buffer, parts_counted};
+use row_lines::{Buffer, World, parts_counted, say};
 use run_tools::{Bench, Left, NONE, faults_of};
-use std::marker::Sync;
-use std::sync::Wait;
-use std::thread::Threads;
+use std::fmt::Write;
 
 // The most runs of a row.
 const MOST: u64 = 1_024;
@@ -22,22 +20,19 @@ fn before_fault(report: &str) -> &str {
 fn put_front(out: &mut Buffer, left: &Left, air: &[u8], report: &[u8]) {
     let report_text = left.report_text();
     let told = before_fault(report_text);
-    out.say_number("", u64::from(left.code()));
+    say!(out; "{}", left.code());
     if !air.starts_with(left.air()) || !report.starts_with(told.as_bytes()) {
         return out.say(", no front");
     }
-    out.say_number(", ", left.air().len() as u64);
-    out.say_number(" bytes, ", told.len() as u64);
-    out.say(" told");
+    say!(out; ", {} bytes, {} told", left.air().len(), told.len());
     let fault = report_text.strip_prefix(told).unwrap_or("");
     if let Some(fault) = fault.strip_suffix('\n') {
-        out.say(", ");
-        out.say(fault);
+        say!(out; ", {fault}");
     }
 }
 
 // Appends what runs in turn leave, up to the first that is done.
-fn put_fronts<W: Threads + Wait + Sync>(
+fn put_fronts<W: World>(
     bench: &mut Bench<W>,
     words: &str,
     faults: &str,
@@ -60,11 +55,11 @@ fn put_fronts<W: Threads + Wait + Sync>(
 }
 
 /// `WORDS ; FAULTS ; INPUT`
-pub fn tell_fronts<W: Threads + Wait + Sync>(bench: &mut Bench<W>, row: &str) -> Option<()> {
+pub fn tell_fronts<W: World>(bench: &mut Bench<W>, row: &str) -> Option<()> {
     let case = bench.take(row)?;
     let mut all = Buffer::open(bench.alloc);
     put_fronts(bench, case.words, case.faults, &mut all)?;
-    let counted = parts_counted(bench.alloc, all.text()).ok()?;
-    bench.answer.say(counted.as_str());
+    let counted = parts_counted(bench.alloc, all.text());
+    bench.answer.put(counted.as_slice());
     Some(())
 }

@@ -1,5 +1,6 @@
 // How audits ended, counted.
-use row_lines::Buffer;
+use row_lines::{Buffer, say};
+use std::fmt::Write;
 
 // The ends of an audit: the exit status, and the word with which the line of the report begins or ends.
 const ENDS: [(u8, &str); 7] = [
@@ -60,16 +61,11 @@ pub fn count(tally: &mut Tally, code: u8, report: &str) {
 pub fn put_tally(out: &mut Buffer, tally: &Tally) {
     for ((code, word), count) in ENDS.iter().zip(&tally.counts) {
         if *count != 0 {
-            out.say_number("", *count);
-            out.say_number(" times ", u64::from(*code));
-            out.say(" ");
-            out.say(word);
-            out.say(", ");
+            say!(out; "{count} times {code} {word}, ");
         }
     }
     if tally.others != 0 {
-        out.say_number("", tally.others);
-        out.say(" times another, ");
+        say!(out; "{} times another, ", tally.others);
     }
     out.say_number("packets ", tally.packets);
 }

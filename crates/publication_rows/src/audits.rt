@@ -4,8 +4,9 @@ ghost use Rattle.std.specs.Prelude.{◌≤◌, ◌<◌, ◌*◌};
 use crate::guides::{moment, offsets_at, tables_at};
 use air_audit::{Checker, Rule};
 use carousel_player::Player;
-use row_lines::{MOST, Row, packet_in};
+use row_lines::{MOST, Row, packet_in, say};
 use si_time::Moment;
+use std::fmt::Write;
 use ts_packets::TsPacket;
 
 // A quota from 1 to 10,000; 1 where the row has another.
@@ -36,21 +37,15 @@ fn swap(row: &mut Row, checker: &mut Checker, moment: Moment, text: &str)
     }
 }
 
-fn rule_word(rule: Rule) -> &'static str {
-    match rule {
-        Rule::Shape => " shape",
-        Rule::Pid => " pid",
-        Rule::Counter => " counter",
-        Rule::Pointer => " pointer",
-        Rule::Bytes => " bytes",
-    }
-}
-
 fn check(row: &mut Row, checker: &mut Checker, packet: &[u8; 188]) {
     row.begin_part();
     row.put(match checker.check(packet) {
         None => " ok",
-        Some(rule) => rule_word(rule),
+        Some(Rule::Shape) => " shape",
+        Some(Rule::Pid) => " pid",
+        Some(Rule::Counter) => " counter",
+        Some(Rule::Pointer) => " pointer",
+        Some(Rule::Bytes) => " bytes",
     });
 }
 
@@ -168,16 +163,11 @@ fn play_cycle(
 }
 
 fn check_part(row: &mut Row, checker: &mut Checker, packets: &[TsPacket], part: &str) {
-    if let Some(number) = part.strip_prefix('~') {
-        match packet_of(packets, number) {
-            Some(packet) => check_bits(row, checker, &packet),
-            None => row.refuse(),
-        }
-    } else {
-        match packet_of(packets, part) {
-            Some(packet) => check(row, checker, &packet),
-            None => row.refuse(),
-        }
+    let number = part.strip_prefix('~').unwrap_or(part);
+    match packet_of(packets, number) {
+        Some(packet) if number != part => check_bits(row, checker, &packet),
+        Some(packet) => check(row, checker, &packet),
+        None => row.refuse(),
     }
 }
 
@@ -203,7 +193,8 @@ fn check_bits(row: &mut Row, checker: &mut Checker, packet: &[u8; 188]) {
         count_bits(&mut counts, checker, packet, place);
     }
     row.begin_part();
-    put_counts(row, &counts);
+    say!(row; " ok {} shape {} pid {}", counts[0], counts[1], counts[2]);
+    say!(row; " counter {} pointer {} bytes {}", counts[3], counts[4], counts[5]);
 }
 
 fn count_bits(counts: &mut [u64; 6], checker: &mut Checker, packet: &[u8; 188], place: usize)
@@ -219,15 +210,6 @@ fn count_bits(counts: &mut [u64; 6], checker: &mut Checker, packet: &[u8; 188], 
 fn count(counts: &mut [u64; 6], rule: Option<Rule>) {
     let index = rule_index(rule);
     counts[index] = counts[index].saturating_add(1);
-}
-
-fn put_counts(row: &mut Row, counts: &[u64; 6]) {
-    row.put_number(" ok ", counts[0]);
-    row.put_number(" shape ", counts[1]);
-    row.put_number(" pid ", counts[2]);
-    row.put_number(" counter ", counts[3]);
-    row.put_number(" pointer ", counts[4]);
-    row.put_number(" bytes ", counts[5]);
 }
 
 fn rule_index(rule: Option<Rule>) -> usize

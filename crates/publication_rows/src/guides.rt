@@ -73,10 +73,10 @@ fn tables_behind(
 fn tables_of(alloc: Global, moment: Moment, text: &str) -> Result<Option<Tables>, AllocError>
     ensures { IfOk result (λ tables. IfSome tables (λ tables. AreFit tables.list)) }
 {
-    let Some(text) = written_out(alloc, text)? else {
+    let Some(text) = written_out(alloc, text) else {
         return Ok(None);
     };
-    let mut lines = reader(alloc, text.as_str(), WHOLE)?;
+    let mut lines = reader(alloc, text.text(), WHOLE)?;
     match read_mux(alloc, &mut lines) {
         Ok(mux) => tables_behind(alloc, moment, &mux, &mut lines),
         Err(_) => Ok(None),
@@ -88,16 +88,11 @@ pub fn tables_at(row: &mut Row, moment: Moment, text: &str) -> Option<Tables>
     ensures { IfSome result (λ tables. AreFit tables.list) }
 {
     match tables_of(row.alloc(), moment, text) {
-        Ok(Some(tables)) => Some(tables),
-        Ok(None) => {
-            row.refuse();
-            None
-        }
-        Err(_) => {
-            row.lack_memory();
-            None
-        }
+        Ok(Some(tables)) => return Some(tables),
+        Ok(None) => row.refuse(),
+        Err(_) => row.lack_memory(),
     }
+    None
 }
 
 // The offsets of local time of a multiplex.
@@ -112,10 +107,10 @@ fn offsets_of_mux(mux: &Mux) -> Result<Offsets, AllocError>
 fn offsets_of(alloc: Global, text: &str) -> Result<Option<Offsets>, AllocError>
     ensures { IfOk result (λ offsets. IfSome offsets CanBeTold) }
 {
-    let Some(text) = written_out(alloc, text)? else {
+    let Some(text) = written_out(alloc, text) else {
         return Ok(None);
     };
-    let mut lines = reader(alloc, text.as_str(), WHOLE)?;
+    let mut lines = reader(alloc, text.text(), WHOLE)?;
     match read_mux(alloc, &mut lines) {
         Ok(mux) => {
             let offsets = offsets_of_mux(&mux)?;
@@ -130,16 +125,11 @@ pub fn offsets_at(row: &mut Row, text: &str) -> Option<Offsets>
     ensures { IfSome result CanBeTold }
 {
     match offsets_of(row.alloc(), text) {
-        Ok(Some(offsets)) => Some(offsets),
-        Ok(None) => {
-            row.refuse();
-            None
-        }
-        Err(_) => {
-            row.lack_memory();
-            None
-        }
+        Ok(Some(offsets)) => return Some(offsets),
+        Ok(None) => row.refuse(),
+        Err(_) => row.lack_memory(),
     }
+    None
 }
 
 /// A moment.

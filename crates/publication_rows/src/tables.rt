@@ -4,8 +4,9 @@ ghost use Rattle.section_codec.specs.Section.{longest_body};
 ghost use Rattle.section_codec.specs.Tables.{has_short_form};
 
 use crate::guides::built;
-use row_lines::{Row, put_made};
+use row_lines::{Row, put_made, say};
 use section_codec::{Key, LongHeader, NumberedBody, SubTable, Tier3, is_eit, write_long};
+use std::fmt::Write;
 
 // The longest body of a section of a table.
 fn longest_body(table: u8) -> usize
@@ -84,25 +85,24 @@ pub fn one(row: &mut Row) {
     row.end_parts();
 }
 
-fn tier_word(tier: Tier3) -> &'static str {
-    match tier {
-        Tier3::Fast => " fast",
-        Tier3::Near => " near",
-        Tier3::Far => " far",
-    }
-}
-
 // Appends what names a table, its tier, and the numbers of its sections.
 fn put_place(row: &mut Row, table: &SubTable) {
     row.begin_part();
-    row.put_hex(" ", table.key.pid);
-    row.put_byte(" ", table.key.table);
-    row.put_number(" ", u64::from(table.key.ext));
-    row.put_number(" ", u64::from(table.key.stream));
-    row.put_number(" ", u64::from(table.key.network));
-    row.put(tier_word(table.tier));
+    let Key {
+        pid,
+        ext,
+        stream,
+        network,
+        ..
+    } = table.key;
+    say!(row; " {pid:04X} {:02X} {ext} {stream} {network}", table.key.table);
+    row.put(match table.tier {
+        Tier3::Fast => " fast",
+        Tier3::Near => " near",
+        Tier3::Far => " far",
+    });
     for section in table.sections.as_slice() {
-        row.put_number(" ", u64::from(section.number));
+        say!(row; " {}", section.number);
     }
 }
 

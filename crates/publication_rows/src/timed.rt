@@ -3,10 +3,11 @@ ghost use Rattle.std.specs.Prelude.{◌≤◌, ◌<◌, ◌*◌};
 
 use crate::guides::{offsets_at, tables_at};
 use cycle_player::TimedPlayer;
-use row_lines::Row;
+use row_lines::{Row, say};
 use si_base::crc32;
 use si_causes::MemSink;
 use si_time::{Moment, read_moment};
+use std::fmt::Write;
 
 // A rate from 100,000 to 100,000,000; 100,000 where the row has another, which is refused.
 fn rate(row: &mut Row) -> u32
@@ -62,8 +63,6 @@ fn put_air(row: &mut Row, air: &[u8]) {
     let nulls = air
         .chunks(188)
         .filter(|packet| packet.starts_with(&[0x47, 0x1F, 0xFF]));
-    row.put_number(" packets ", (air.len() / 188) as u64);
-    row.put_number(" null ", nulls.count() as u64);
-    row.put(" crc");
+    say!(row; " packets {} null {} crc", air.len() / 188, nulls.count());
     row.put_bytes(&crc32(air).to_be_bytes());
 }

@@ -1,11 +1,12 @@
 // Bytes and texts of rows as they grow.
 use crate::notation::text_of;
+use crate::say;
 use std::alloc::{AllocError, Global};
+use std::fmt::{self, Write};
 
 /// Bytes as they grow. Want of memory is noted, so that calls need no errors.
 #[derive(Drop)]
 pub struct Buffer {
-    alloc: Global,
     bytes: Vec<u8>,
     lacks: bool,
 }
@@ -14,7 +15,6 @@ impl Buffer {
     /// No bytes.
     pub fn open(alloc: Global) -> Buffer {
         Buffer {
-            alloc,
             bytes: Vec::new(alloc),
             lacks: false,
         }
@@ -23,6 +23,11 @@ impl Buffer {
     /// All bytes.
     pub fn as_slice(&self) -> &[u8] {
         &self.bytes
+    }
+
+    /// The bytes alone.
+    pub fn into_bytes(self) -> Vec<u8> {
+        self.bytes
     }
 
     /// The bytes as a text.
@@ -61,7 +66,7 @@ impl Buffer {
 
     /// Notes what was done.
     pub fn note(&mut self, done: Result<(), AllocError>) {
-        self.lacks = self.lacks || done.is_err();
+        self.need(done.is_ok());
     }
 
     /// Notes whether memory was wanting for another.
@@ -69,17 +74,20 @@ impl Buffer {
         self.lacks = self.lacks || other.lacks;
     }
 
+    /// The value that was made, or None where memory is wanting, which is noted.
+    pub fn made<T>(&mut self, made: Result<T, AllocError>) -> Option<T> {
+        self.need(made.is_ok());
+        made.ok()
+    }
+
     /// Whether memory was wanting.
     pub fn lacks(&self) -> bool {
         self.lacks
     }
 
-    /// The text, where no memory was wanting, here or elsewhere.
-    pub fn finished(&self, lacks: bool) -> Result<&str, AllocError> {
-        if self.lacks || lacks {
-            return Err(AllocError);
-        }
-        Ok(self.text())
+    /// Notes that memory was wanting, unless this was done.
+    pub fn need(&mut self, is_done: bool) {
+        self.lacks = self.lacks || !is_done;
     }
 
     /// Appends bytes.
@@ -91,7 +99,7 @@ impl Buffer {
     /// Appends a byte.
     pub fn push(&mut self, byte: u8) {
         let done = self.bytes.push(byte);
-        self.lacks = self.lacks || done.is_err();
+        self.need(done.is_ok());
     }
 
     /// Appends a text.
@@ -115,24 +123,38 @@ impl Buffer {
 
     /// Appends a text, and a number after it.
     pub fn say_number(&mut self, text: &str, number: u64) {
-        self.say(text);
-        match number.to_string(self.alloc) {
-            Ok(number) => self.say(number.as_str()),
-            Err(_) => self.lacks = true,
-        }
+        say!(self; "{text}{number}");
     }
 
-    /// Appends two hex digits.
-    pub fn say_hex(&mut self, byte: u8) {
-        self.push(digit(byte >> 4));
-        self.push(digit(byte & 15));
+    /// Appends bytes, each in hex after a blank; one that stands five times or more in a row stands
+    /// once, with a star and how often.
+    pub fn put_runs(&mut self, bytes: &[u8]) {
+        let mut last = 0;
+        let mut count = 0u64;
+        for byte in bytes {
+            if *byte != last {
+                self.put_run(last, count);
+                last = *byte;
+                count = 0;
+            }
+            count = count.saturating_add(1);
+        }
+        self.put_run(last, count);
+    }
+
+    fn put_run(&mut self, byte: u8, count: u64) {
+        if count >= 5 {
+            return say!(self; " {byte:02X}*{count}");
+        }
+        for _ in 0..count {
+            say!(self; " {byte:02X}");
+        }
     }
 }
 
-fn digit(value: u8) -> u8 {
-    match value {
-        0..=9 => b'0' + value,
-        10..=15 => b'A' + (value - 10),
-        _ => b'?',
+impl fmt::Write for Buffer {
+    fn write_str(&mut self, text: &str) -> fmt::Result {
+        self.say(text);
+        Ok(())
     }
 }

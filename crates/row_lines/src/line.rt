@@ -1,5 +1,9 @@
 // A row as it is read, and its answer as it grows. What is no row and want of memory are noted, so that calls need no errors.
+use crate::buffer::Buffer;
+use crate::say;
+use crate::spelled::put_spelled;
 use std::alloc::{AllocError, Global};
+use std::fmt::{self, Write};
 
 /// The most parts of a list, and the most words of a part.
 pub const MOST: u32 = 5000;
@@ -10,9 +14,8 @@ pub struct Row<'a> {
     alloc: Global,
     rest: &'a str,
     goes_on: bool,
-    answer: String,
     is_right: bool,
-    has_memory: bool,
+    answer: Buffer,
 }
 
 impl<'a> Row<'a> {
@@ -21,9 +24,8 @@ impl<'a> Row<'a> {
             alloc,
             rest: line,
             goes_on: false,
-            answer: String::new(alloc),
             is_right: true,
-            has_memory: true,
+            answer: Buffer::open(alloc),
         }
     }
 
@@ -38,12 +40,28 @@ impl<'a> Row<'a> {
 
     /// Notes that memory is wanting.
     pub fn lack_memory(&mut self) {
-        self.has_memory = false;
+        self.answer.need(false);
     }
 
     /// Notes that memory is wanting, unless this was done.
     pub fn need(&mut self, is_done: bool) {
-        self.has_memory = self.has_memory && is_done;
+        self.answer.need(is_done);
+    }
+
+    /// The value that was made, or None where memory is wanting.
+    pub fn made<T>(&mut self, made: Result<T, AllocError>) -> Option<T> {
+        self.answer.made(made)
+    }
+
+    /// The value that was read, or None where there is none, which is no row.
+    pub fn read<T>(&mut self, read: Option<T>) -> Option<T> {
+        self.is_right = self.is_right && read.is_some();
+        read
+    }
+
+    /// Whether all that came could be read.
+    pub fn is_read(&self) -> bool {
+        self.is_right && self.rest.is_empty()
     }
 
     /// The value, or another one where there is none, which is no row.
@@ -55,15 +73,16 @@ impl<'a> Row<'a> {
     }
 
     /// The answer, or `no row`.
-    pub fn end(self) -> Result<String, AllocError> {
-        if !self.has_memory {
-            return Err(AllocError);
-        }
-        if !self.is_right || !self.rest.is_empty() {
-            return String::from_str(self.alloc, "no row");
-        }
-        let answer = self.answer.as_str();
-        String::from_str(self.alloc, answer.strip_prefix(' ').unwrap_or(answer))
+    pub fn end(&self) -> Buffer {
+        let mut out = Buffer::open(self.alloc);
+        let answer = self.answer.text();
+        out.say(if self.is_read() {
+            answer.strip_prefix(' ').unwrap_or(answer)
+        } else {
+            "no row"
+        });
+        out.note_of(&self.answer);
+        out
     }
 
     // ---- what is read
@@ -160,26 +179,31 @@ impl<'a> Row<'a> {
         self.hex()
     }
 
-    /// The bytes up to a bar, a slash or the end: each word is a byte of two hex digits, or a text in quotes without blanks;
-    /// behind a star stands how often it comes.
+    /// The bytes that the words up to a bar, a slash or the end spell (`put_spelled`).
     pub fn bytes(&mut self) -> Vec<u8> {
-        let mut bytes = Vec::new(self.alloc);
-        self.append_words(&mut bytes);
-        bytes
-    }
-
-    fn append_words(&mut self, bytes: &mut Vec<u8>) {
+        let mut bytes = Buffer::open(self.alloc);
         for _ in 0..MOST {
             let word = self.word();
             if self.is_end(word) {
                 break;
             }
-            match append_word(word, bytes) {
-                Ok(true) => {}
-                Ok(false) => self.refuse(),
-                Err(_) => self.lack_memory(),
-            }
+            self.spell(word, &mut bytes);
         }
+        bytes.into_bytes()
+    }
+
+    /// The bytes that all that is still to come spells.
+    pub fn rest_bytes(&mut self) -> Vec<u8> {
+        let mut bytes = Buffer::open(self.alloc);
+        let rest = self.rest();
+        self.spell(rest, &mut bytes);
+        bytes.into_bytes()
+    }
+
+    fn spell(&mut self, text: &str, bytes: &mut Buffer) {
+        let spelled = put_spelled(self.alloc, text, bytes);
+        self.is_right = self.is_right && spelled.is_some();
+        self.answer.note_of(bytes);
     }
 
     /// Whether a part ends with this word, and whether a further part follows.
@@ -205,103 +229,43 @@ impl<'a> Row<'a> {
 
     /// Appends a text, which begins with a blank.
     pub fn put(&mut self, text: &str) {
-        let done = self.answer.push_str(text);
-        self.need(done.is_ok());
-    }
-
-    /// Appends a character.
-    pub fn put_char(&mut self, character: char) {
-        let done = self.answer.push(character);
-        self.need(done.is_ok());
+        self.answer.say(text);
     }
 
     /// Appends a number behind a text.
     pub fn put_number(&mut self, text: &str, number: u64) {
-        let done = write!(self.answer, "{text}{number}");
-        self.need(done.is_ok());
-    }
-
-    /// Appends two hex digits behind a text.
-    pub fn put_byte(&mut self, text: &str, byte: u8) {
-        let done = write!(self.answer, "{text}{byte:02X}");
-        self.need(done.is_ok());
-    }
-
-    /// Appends four hex digits behind a text.
-    pub fn put_hex(&mut self, text: &str, number: u16) {
-        let done = write!(self.answer, "{text}{number:04X}");
-        self.need(done.is_ok());
+        say!(self; "{text}{number}");
     }
 
     /// Appends bytes, each behind a blank; one that stands five times or more in a row stands once, with a star and how often.
     pub fn put_bytes(&mut self, bytes: &[u8]) {
-        let mut last = 0;
-        let mut count = 0u64;
-        for byte in bytes {
-            if *byte != last {
-                self.put_run(last, count);
-                last = *byte;
-                count = 0;
-            }
-            count = count.saturating_add(1);
-        }
-        self.put_run(last, count);
-    }
-
-    fn put_run(&mut self, byte: u8, count: u64) {
-        if count >= 5 {
-            self.put_byte(" ", byte);
-            return self.put_number("*", count);
-        }
-        for _ in 0..count {
-            self.put_byte(" ", byte);
-        }
+        self.answer.put_runs(bytes);
     }
 
     /// Parts what follows from what the answer has.
     pub fn begin_part(&mut self) {
-        if !self.answer.is_empty() {
+        if self.answer.len() > 0 {
             self.put(" /");
         }
     }
 
     /// Says `none` where the answer has nothing.
     pub fn end_parts(&mut self) {
-        if self.answer.is_empty() {
+        if self.answer.len() == 0 {
             self.put(" none");
         }
     }
 
     /// Whether this is the answer so far.
     pub fn has(&self, answer: &str) -> bool {
-        self.answer.as_str() == answer
+        self.answer.text() == answer
     }
 }
 
-// Appends what a word spells; whether it spells bytes.
-fn append_word(word: &str, bytes: &mut Vec<u8>) -> Result<bool, AllocError> {
-    let Some((unit, count)) = repeated(word) else {
-        return Ok(false);
-    };
-    for _ in 0..count {
-        if !append_unit(unit, bytes)? {
-            return Ok(false);
-        }
-    }
-    Ok(true)
-}
-
-fn append_unit(unit: &str, bytes: &mut Vec<u8>) -> Result<bool, AllocError> {
-    if let Some(text) = quoted(unit) {
-        bytes.extend_from_slice(text.as_bytes())?;
-        return Ok(true);
-    }
-    match byte_in(unit) {
-        Some(byte) => {
-            bytes.push(byte)?;
-            Ok(true)
-        }
-        None => Ok(false),
+impl<'a> fmt::Write for Row<'a> {
+    fn write_str(&mut self, text: &str) -> fmt::Result {
+        self.put(text);
+        Ok(())
     }
 }
 

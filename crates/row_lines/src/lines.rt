@@ -1,6 +1,5 @@
 // Readers of texts that are cut into pieces.
 use crate::buffer::Buffer;
-use crate::notation::bytes_of;
 use input_lines::numeral;
 use si_causes::{LineReader, MemSource};
 use std::alloc::{AllocError, Global};
@@ -23,7 +22,20 @@ pub const WHOLE: Cut = Cut {
 
 pub type Lines = LineReader<MemSource>;
 
-/// A reader of a text, in which a slash stands for LF.
+// The bytes of a text, in which a slash stands for LF, and a tilde for the byte FF.
+fn bytes_of(alloc: Global, text: &str) -> Result<Vec<u8>, AllocError> {
+    let mut bytes = Vec::new(alloc);
+    for byte in text.as_bytes() {
+        bytes.push(match byte {
+            b'/' => b'\n',
+            b'~' => 0xFF,
+            other => *other,
+        })?;
+    }
+    Ok(bytes)
+}
+
+/// A reader of a text, in which a slash stands for LF, and a tilde for the byte FF.
 pub fn reader(alloc: Global, text: &str, cut: Cut) -> Result<Lines, AllocError> {
     let bytes = bytes_of(alloc, text)?;
     let fails = vec![in alloc; u64::from(cut.fails_at); 1]?;

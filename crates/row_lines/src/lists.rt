@@ -52,9 +52,8 @@ pub fn packet_in(row: &mut Row) -> [u8; 188] {
 
 /// Puts bytes that were made.
 pub fn put_made(row: &mut Row, made: Result<Bytes, AllocError>) {
-    match made {
-        Ok(bytes) => row.put_bytes(bytes.as_slice()),
-        Err(_) => row.lack_memory(),
+    if let Some(bytes) = row.made(made) {
+        row.put_bytes(bytes.as_slice());
     }
 }
 
@@ -73,9 +72,9 @@ pub fn put_read<T: Drop, F: Fn(&mut Row, &T)>(
 )
     requires { F.IsAlwaysCallable put }
 {
-    match read {
-        Ok(Some(value)) => put(row, &value),
-        Ok(None) => row.put(none),
-        Err(_) => row.lack_memory(),
+    match row.made(read) {
+        Some(Some(value)) => put(row, &value),
+        Some(None) => row.put(none),
+        None => {}
     }
 }

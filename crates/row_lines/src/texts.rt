@@ -1,8 +1,10 @@
 // Codes, texts and times in the notation of rows.
+use crate::buffer::Buffer;
 use crate::line::{Row, quoted, repeated};
+use crate::say;
 use guide_model::{Shown, Txt};
 use si_time::{Moment, read_duration, read_moment};
-use std::alloc::{AllocError, Global};
+use std::fmt::Write;
 
 /// A code of three letters.
 pub fn code(row: &mut Row) -> [u8; 3] {
@@ -36,54 +38,30 @@ pub fn duration(row: &mut Row) -> u32 {
 /// A text in quotes without blanks; behind a star stands how often it comes.
 pub fn text(row: &mut Row) -> Option<Txt> {
     let word = row.word();
-    match text_in(row.alloc(), word) {
-        Ok(Some(text)) => Some(text),
-        Ok(None) => {
-            row.refuse();
-            None
-        }
-        Err(_) => {
-            row.lack_memory();
-            None
-        }
-    }
-}
-
-fn text_in(alloc: Global, word: &str) -> Result<Option<Txt>, AllocError> {
-    let Some((unit, count)) = repeated(word) else {
-        return Ok(None);
-    };
-    let Some(unit) = quoted(unit) else {
-        return Ok(None);
-    };
-    let mut text = String::new(alloc);
+    let (unit, count) = row.read(repeated(word))?;
+    let unit = row.read(quoted(unit))?;
+    let mut text = Buffer::open(row.alloc());
     for _ in 0..count {
-        text.push_str(unit)?;
+        text.say(unit);
     }
-    Txt::of(alloc, text.as_str())
+    row.need(!text.lacks());
+    let text = Txt::of(row.alloc(), text.text());
+    let text = row.made(text)?;
+    row.read(text)
 }
 
 /// Appends a text in quotes, or all its bytes where it is not shown as text.
 pub fn put_shown(row: &mut Row, shown: &Shown) {
     match shown {
-        Shown::Text(text) => {
-            row.put(" \"");
-            row.put(text.as_str());
-            row.put("\"");
-        }
+        Shown::Text(text) => say!(row; " \"{}\"", text.as_str()),
         Shown::Hex(bytes) => row.put_bytes(bytes.as_slice()),
     }
 }
 
 /// Appends a code of three letters.
 pub fn put_code(row: &mut Row, code: &[u8; 3]) {
-    put_letters(row, code);
-}
-
-/// Appends letters behind a blank.
-pub fn put_letters(row: &mut Row, letters: &[u8]) {
     row.put(" ");
-    for letter in letters {
-        row.put_char(char::from(*letter));
+    for letter in code {
+        say!(row; "{}", char::from(*letter));
     }
 }

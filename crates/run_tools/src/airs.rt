@@ -4,34 +4,38 @@ use crate::left::Left;
 use epg_cli::{Origin, Outlet, Status};
 use journal_model::Outcome;
 use mux_config::MuxFault;
-use row_lines::Buffer;
-use row_sheets::{description, number, pid_of};
+use row_airs::{description, number, pid_of};
+use row_lines::{Buffer, say};
+use std::fmt::Write;
 
-/// Appends lines of a report: a slash for LF, a bar for a tab.
-pub fn put_lines(out: &mut Buffer, lines: &str) {
+/// Appends lines of a report: a slash for LF, and this byte for a tab.
+pub fn put_lines_with(out: &mut Buffer, lines: &str, tab: u8) {
     for byte in lines.as_bytes() {
         out.push(match *byte {
             b'\n' => b'/',
-            b'\t' => b'|',
+            b'\t' => tab,
             byte => byte,
         });
     }
 }
 
+/// Appends lines of a report: a slash for LF, a bar for a tab.
+pub fn put_lines(out: &mut Buffer, lines: &str) {
+    put_lines_with(out, lines, b'|');
+}
+
 /// Appends the exit status and the whole report.
 pub fn put_whole(out: &mut Buffer, code: u8, report: &str) {
-    out.say_number("", u64::from(code));
-    out.say(", ");
+    say!(out; "{code}, ");
     put_lines(out, report);
 }
 
 // Appends the exit status, how many packets the air has, with the bytes after the last whole one, and the report, or `none`.
 fn put_played(out: &mut Buffer, left: &Left) {
     let (len, report) = (left.air().len(), left.report_text());
-    out.say_number("", u64::from(left.code()));
-    out.say_number(", ", (len / 188) as u64);
+    say!(out; "{}, {}", left.code(), len / 188);
     if len % 188 != 0 {
-        out.say_number("+", (len % 188) as u64);
+        say!(out; "+{}", len % 188);
     }
     out.say(", ");
     put_lines(out, if report.is_empty() { "none" } else { report });
@@ -57,29 +61,23 @@ fn named(status: Status) -> (&'static str, u64) {
 
 fn put_status(out: &mut Buffer, status: Status) {
     let (name, number) = named(status);
-    out.say_number("", u64::from(status.code()));
-    out.say(" ");
-    out.say(name);
-    out.say_number(" ", number);
+    say!(out; "{} {name} {number}", status.code());
     if let Status::Disagrees(_, Outcome::Published(kept), Outcome::Published(found)) = status {
-        out.say_number(" kept ", kept);
-        out.say_number(" found ", found);
+        say!(out; " kept {kept} found {found}");
     }
 }
 
 // Appends the status, how many bytes the air took, and the report.
 fn put_ended(out: &mut Buffer, left: &Left) {
     put_status(out, left.status());
-    out.say_number(", ", left.air().len() as u64);
-    out.say(" bytes, ");
+    say!(out; ", {} bytes, ", left.air().len());
     put_lines(out, left.report_text())
 }
 
 // Appends the status, how many bytes an air has, and whether they are the front of these.
 fn put_front(out: &mut Buffer, left: &Left, bytes: &[u8]) {
     put_status(out, left.status());
-    out.say_number(", ", left.air().len() as u64);
-    out.say_number(" of ", bytes.len() as u64);
+    say!(out; ", {} of {}", left.air().len(), bytes.len());
     out.say(if bytes.starts_with(left.air()) {
         " bytes as given"
     } else {
@@ -100,14 +98,12 @@ fn put_itself(out: &mut Buffer, left: &Left, script: &str) {
 
 // Appends how many packets an air has, and of each on a PID the version of the section that begins it and the counter.
 fn put_numbers(out: &mut Buffer, air: &[u8], pid: usize) {
-    out.say_number("", (air.len() / 188) as u64);
-    out.say(" packets,");
+    say!(out; "{} packets,", air.len() / 188);
     for packet in air.chunks(188) {
         if pid_of(packet).map(usize::from) == Some(pid) {
             let version = packet.get(10).copied().unwrap_or(0) >> 1 & 31;
             let counter = packet.get(3).copied().unwrap_or(0) & 15;
-            out.say_number(" ", u64::from(version));
-            out.say_number(":", u64::from(counter));
+            say!(out; " {version}:{counter}");
         }
     }
 }
@@ -117,7 +113,7 @@ fn put_pids(out: &mut Buffer, air: &[u8]) {
     out.say("PIDs");
     for packet in air.chunks(188) {
         let pid = pid_of(packet).unwrap_or(0);
-        out.say_number(" ", u64::from(pid));
+        say!(out; " {pid}");
     }
 }
 
@@ -139,8 +135,7 @@ fn repeats(air: &[u8], from: usize, count: usize, later: usize) -> bool {
 fn put_bytes(out: &mut Buffer, air: &[u8], from: usize, count: usize) {
     out.say("bytes");
     for byte in air.iter().skip(from).take(count) {
-        out.say(" ");
-        out.say_hex(*byte);
+        say!(out; " {byte:02X}");
     }
 }
 

@@ -1,13 +1,9 @@
 // What the rows of a program share.
 use crate::faults::{Faults, NONE};
 use crate::left::{Left, Outside};
-use row_gates::Holding;
-use row_lines::Buffer;
+use row_lines::{Buffer, Holding, World};
 use std::alloc::{AllocError, Global};
-use std::marker::Sync;
 use std::mem;
-use std::sync::Wait;
-use std::thread::Threads;
 
 /// The files of data, the input and the files that a row says, the last run, and the answer of the row.
 #[derive(Drop)]
@@ -24,7 +20,7 @@ pub struct Bench<'a, W> {
     pub answer: Buffer,
 }
 
-impl<'a, W: Threads + Wait + Sync> Bench<'a, W> {
+impl<'a, W: World> Bench<'a, W> {
     /// Nothing of any row.
     pub fn open(rt: &'a W, alloc: Global) -> Result<Bench<'a, W>, AllocError> {
         Ok(Bench {
@@ -42,16 +38,14 @@ impl<'a, W: Threads + Wait + Sync> Bench<'a, W> {
     }
 
     /// Takes a file of data.
-    pub fn shelve(&mut self, name: &str, bytes: &[u8]) -> Result<(), AllocError> {
-        let mut file = Buffer::open(self.alloc);
-        file.put(bytes);
+    pub fn shelve(&mut self, name: &str, file: Buffer) -> Result<(), AllocError> {
         let name = String::from_str(self.alloc, name)?;
         self.shelf.push((name, file))?;
         Ok(())
     }
 
     /// The file of data with this name.
-    pub(crate) fn file(&self, name: &str) -> Option<&Buffer> {
+    pub fn file(&self, name: &str) -> Option<&Buffer> {
         for (known, file) in &self.shelf {
             if known.as_str() == name && !file.lacks() {
                 return Some(file);

@@ -4,12 +4,9 @@ use crate::bench::Bench;
 use crate::faults::{NONE, faults_of};
 use crate::guides::put_of_guide;
 use crate::journals::put_of_journal;
-use row_lines::{Buffer, parts_counted};
-use row_sheets::cut;
-use std::marker::Sync;
+use row_airs::cut;
+use row_lines::{Buffer, World, parts_counted};
 use std::mem;
-use std::sync::Wait;
-use std::thread::Threads;
 
 // The most runs of a row.
 const MOST: u64 = 1_024;
@@ -61,7 +58,7 @@ fn parted(text: &str) -> (&str, Option<&str>) {
     }
 }
 
-impl<'a, W: Threads + Wait + Sync> Bench<'a, W> {
+impl<'a, W: World> Bench<'a, W> {
     // Fills in the input and the files that a row says.
     fn fill(&mut self, sources: &str) -> Option<()> {
         let (input, files) = parted(sources);
@@ -144,8 +141,8 @@ impl<'a, W: Threads + Wait + Sync> Bench<'a, W> {
             self.show(shows, &mut whole)?;
             self.put_turns(case, shows, whole.as_slice(), &mut all)?;
         }
-        let counted = parts_counted(self.alloc, all.text()).ok()?;
-        self.answer.say(counted.as_str());
+        let counted = parts_counted(self.alloc, all.text());
+        self.answer.put(counted.as_slice());
         Some(())
     }
 

@@ -2,9 +2,10 @@
 use crate::airs::put_lines;
 use crate::cases::Shows;
 use crate::left::Left;
-use row_lines::Buffer;
-use row_sheets::number;
+use row_airs::{front_lines, number};
+use row_lines::{Buffer, say};
 use si_base::crc32;
+use std::fmt::Write;
 
 fn is_done(line: &str) -> bool {
     line.starts_with("done\t")
@@ -14,37 +15,21 @@ fn is_lost(line: &str) -> bool {
     line.starts_with("lost\t")
 }
 
-// How many bytes the lines of completions, of breaks and of bytes passed over have.
-fn heard_len(report: &str) -> usize {
-    let mut len = 0usize;
-    for line in report.lines() {
-        if is_done(line) || is_lost(line) || line.starts_with("junk\t") {
-            len = len.saturating_add(line.len()).saturating_add(1);
-        }
-    }
-    len
+// The lines of completions, of breaks and of bytes passed over.
+fn heard_of(report: &str) -> &str {
+    front_lines(report, |line: &str| {
+        is_done(line) || is_lost(line) || line.starts_with("junk\t")
+    })
 }
 
 // Appends the exit status, and how many completions and, where there is one, how many breaks are reported.
 fn put_counts(out: &mut Buffer, code: u8, report: &str) {
     let dones = report.lines().filter(|line| is_done(line)).count();
     let breaks = report.lines().filter(|line| is_lost(line)).count();
-    out.say_number("", u64::from(code));
-    out.say_number(", ", dones as u64);
-    out.say(" done, ");
+    say!(out; "{code}, {dones} done, ");
     if breaks > 0 {
-        out.say_number("", breaks as u64);
-        out.say(" lost, ");
+        say!(out; "{breaks} lost, ");
     }
-}
-
-// Appends the CRC_32 of the lines that are counted.
-fn put_crc(out: &mut Buffer, report: &str) {
-    let crc = crc32(report.as_bytes().get(..heard_len(report)).unwrap_or(&[]));
-    for byte in crc.to_be_bytes() {
-        out.say_hex(byte);
-    }
-    out.say(", ");
 }
 
 // Whether a line is a completion of this table, a break, or one of the guide.
@@ -55,8 +40,7 @@ fn is_told(line: &str, table: &str) -> bool {
 
 // Appends the exit status, the completions of this table, the breaks, and what stands after them.
 fn put_table(out: &mut Buffer, code: u8, report: &str, table: &str) {
-    out.say_number("", u64::from(code));
-    out.say(", ");
+    say!(out; "{code}, ");
     for line in report.lines() {
         if is_told(line, table) {
             put_lines(out, line);
@@ -67,7 +51,8 @@ fn put_table(out: &mut Buffer, code: u8, report: &str, table: &str) {
 
 // The first words of the lines of a report, in their order.
 const KINDS: &str =
-    "lost junk done wanting clock local network stream cable service component now next event other remote end";
+    "lost junk done wanting clock local network stream cable service program component \
+    now next event other remote descriptor end";
 
 // Whether this is the first word of a line.
 fn is_first(line: &str, word: &str) -> bool {
@@ -76,13 +61,11 @@ fn is_first(line: &str, word: &str) -> bool {
 
 // Appends the exit status, and how many lines there are of each kind.
 fn put_kinds(out: &mut Buffer, code: u8, report: &str) {
-    out.say_number("", u64::from(code));
+    say!(out; "{code}");
     for word in KINDS.split(' ') {
         let count = report.lines().filter(|line| is_first(line, word)).count();
         if count > 0 {
-            out.say_number(", ", count as u64);
-            out.say(" ");
-            out.say(word);
+            say!(out; ", {count} {word}");
         }
     }
 }
@@ -99,11 +82,12 @@ pub fn put_of_guide(out: &mut Buffer, shows: &Shows, left: &Left) -> Option<()> 
             put_table(out, code, report, table);
         }
         view => {
+            let heard = heard_of(report);
             put_counts(out, code, report);
             if view == "lines" {
-                put_crc(out, report);
+                say!(out; "{:08X}, ", crc32(heard.as_bytes()));
             }
-            put_lines(out, report.get(heard_len(report)..)?);
+            put_lines(out, report.get(heard.len()..)?);
         }
     }
     Some(())

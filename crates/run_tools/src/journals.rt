@@ -1,17 +1,8 @@
 // What a run of `live` or `soak` left.
+use crate::airs::put_lines_with;
 use crate::left::Left;
-use row_lines::Buffer;
-
-// Appends lines of a report: a slash for LF, a blank for a tab.
-fn put_lines(out: &mut Buffer, lines: &str) {
-    for byte in lines.as_bytes() {
-        out.push(match *byte {
-            b'\n' => b'/',
-            b'\t' => b' ',
-            byte => byte,
-        });
-    }
-}
+use row_lines::{Buffer, say};
+use std::fmt::Write;
 
 // The last line of a report, without its LF.
 fn last_line(report: &str) -> &str {
@@ -26,15 +17,13 @@ fn last_line(report: &str) -> &str {
 fn put_after(out: &mut Buffer, lines: &str) {
     if !lines.is_empty() {
         out.say(", ");
-        put_lines(out, lines);
+        put_lines_with(out, lines, b' ');
     }
 }
 
 // Appends the exit status and how many packets the air has.
 fn put_sent(out: &mut Buffer, left: &Left) {
-    out.say_number("", u64::from(left.code()));
-    out.say_number(", ", (left.air().len() / 188) as u64);
-    out.say(" packets");
+    say!(out; "{}, {} packets", left.code(), left.air().len() / 188);
 }
 
 /// Appends the exit status, how many packets the air has, and the last line of the report.
@@ -49,29 +38,28 @@ pub fn caller_of(line: &str) -> Option<u32> {
     who.parse::<u32>().ok()
 }
 
-// How many entries of this caller a report has.
-fn entries_of(report: &str, who: u32) -> usize {
-    report
-        .lines()
-        .filter(|line| caller_of(line) == Some(who))
-        .count()
+/// Appends how many entries a report has of the callers 0 to 3.
+pub fn put_entries(out: &mut Buffer, report: &str) {
+    out.say("entries");
+    for who in 0..4 {
+        let lines = report.lines();
+        let entries = lines.filter(|line| caller_of(line) == Some(who)).count();
+        say!(out; " {entries}");
+    }
 }
 
 /// Appends the exit status, how many packets the air has, how many entries the journal has of the callers 0 to 3, and the last line of
 /// the report.
 pub fn put_counts(out: &mut Buffer, left: &Left) {
     put_sent(out, left);
-    out.say(", entries");
-    for who in 0..4 {
-        let entries = entries_of(left.report_text(), who);
-        out.say_number(" ", entries as u64);
-    }
+    out.say(", ");
+    put_entries(out, left.report_text());
     put_after(out, last_line(left.report_text()))
 }
 
 // Appends the exit status, and the lines of views that the report has.
 fn put_views(out: &mut Buffer, left: &Left) {
-    out.say_number("", u64::from(left.code()));
+    say!(out; "{}", left.code());
     for line in left.report_text().lines() {
         if line.starts_with("view\t") {
             put_after(out, line);
@@ -87,7 +75,7 @@ pub fn put_of_journal(out: &mut Buffer, view: &str, left: &Left) {
         "counts" => put_counts(out, left),
         "views" => put_views(out, left),
         "says" => {
-            out.say_number("", u64::from(left.code()));
+            say!(out; "{}", left.code());
             put_after(out, left.report_text());
         }
         _ => {

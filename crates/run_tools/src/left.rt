@@ -1,13 +1,9 @@
 // A run of the top call over sources, files and sinks in memory.
 use crate::faults::Faults;
 use epg_cli::{Status, run};
-use row_gates::Holding;
-use row_lines::{Buffer, text_of};
+use row_lines::{Buffer, Holding, World, text_of};
 use si_causes::{MemOpener, MemSink, MemSource};
 use std::alloc::{AllocError, Global};
-use std::marker::Sync;
-use std::sync::Wait;
-use std::thread::Threads;
 
 /// What a run meets: its words, with slashes between, its input, its files, by the paths 1, 2, .., what fails, and its gate.
 #[derive(Clone, Copy)]
@@ -132,7 +128,7 @@ impl Left {
     }
 
     /// Runs the top call over this.
-    pub fn run<W: Threads + Wait + Sync>(&mut self, rt: &W, outside: &Outside) {
+    pub fn run<W: World>(&mut self, rt: &W, outside: &Outside) {
         let done = self.make(outside);
         self.lacks = self.lacks || done.is_err();
         self.status = run(

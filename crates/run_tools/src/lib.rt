@@ -19,6 +19,6 @@ pub use airs::put_whole;
 pub use bench::Bench;
 pub use cases::{Case, words_after};
 pub use faults::{Faults, NONE, faults_of};
-pub use journals::{caller_of, put_counts, put_ends};
+pub use journals::{caller_of, put_counts, put_ends, put_entries};
 pub use left::{Left, Outside};
 pub use table::run_sheet;

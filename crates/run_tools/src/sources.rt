@@ -2,32 +2,29 @@
 use crate::bench::Bench;
 use crate::faults::NONE;
 use crate::left::Outside;
-use row_lines::Buffer;
-use row_sheets::{
+use row_airs::{
     change_all, cut, description, number, put_again, put_fronts, put_large, put_lines_of,
-    put_names, put_picked, put_pmts, put_range, put_spelled, spelling,
+    put_names, put_picked, put_pmts, put_range, spelling,
 };
-use std::marker::Sync;
+use row_lines::{Buffer, World, put_spelled};
 use std::mem;
-use std::sync::Wait;
-use std::thread::Threads;
 
 // Whether a text begins with a word of small letters and a blank.
 fn has_form(word: &str, text: &str) -> bool {
     word.len() < text.len() && word.as_bytes().iter().all(|byte| byte.is_ascii_lowercase())
 }
 
-impl<'a, W: Threads + Wait + Sync> Bench<'a, W> {
+impl<'a, W: World> Bench<'a, W> {
     // Appends what a word spells: bytes, or a packet by its name, of which `NAME:FROM-TO` are some bytes; after a star how often it stands.
     fn put_word(&mut self, word: &str) -> Option<()> {
         let (unit, count) = word.split_once('*').unwrap_or((word, "1"));
         let (name, range) = unit.split_once(':').unwrap_or((unit, "0"));
         let named = self.file("named.txt").map_or("", |file| file.text());
         let Some(words) = spelling(named, name) else {
-            return put_spelled(&mut self.made, word);
+            return put_spelled(self.alloc, word, &mut self.made);
         };
         let mut packet = Buffer::open(self.alloc);
-        put_spelled(&mut packet, words)?;
+        put_spelled(self.alloc, words, &mut packet)?;
         if packet.len() != 188 {
             return None;
         }
@@ -64,7 +61,7 @@ impl<'a, W: Threads + Wait + Sync> Bench<'a, W> {
         let (form, rest) = cut(text);
         match form {
             "hex" => self.put_words(rest),
-            "fronts" => put_fronts(&mut self.made, rest),
+            "fronts" => put_fronts(self.alloc, &mut self.made, rest),
             "bytes" => put_again(self.alloc, &mut self.made, rest),
             "names" => put_names(rest, &mut self.made),
             "pmts" => put_pmts(&mut self.made, rest),

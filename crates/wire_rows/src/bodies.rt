@@ -5,8 +5,9 @@ ghost use Rattle.table_bodies.specs.Eit.{IsCodable};
 
 use crate::events::{event, is_codable, put_event};
 use guide_model::Event;
-use row_lines::{Row, each_part, put_read};
+use row_lines::{Row, each_part, put_read, say};
 use si_base::{Bytes, Items};
+use std::fmt::Write;
 use table_bodies::{Eit, EitHead, read_eit, write_eit};
 
 /// `write_eit HEAD / EVENT / EVENT ..`: the body.
@@ -28,10 +29,9 @@ pub fn read(row: &mut Row, bytes: &[u8]) {
 }
 
 fn put_eit(row: &mut Row, eit: &Eit) {
-    row.put_hex(" stream ", eit.head.stream);
-    row.put_hex(" network ", eit.head.original);
-    row.put_number(" segment_last ", u64::from(eit.head.segment_last));
-    row.put_byte(" last_table ", eit.head.last_table);
+    let head = &eit.head;
+    say!(row; " stream {:04X} network {:04X}", head.stream, head.original);
+    say!(row; " segment_last {} last_table {:02X}", head.segment_last, head.last_table);
     for event in eit.events.as_slice() {
         row.put(" /");
         put_event(row, event);
@@ -47,13 +47,8 @@ fn written(row: &mut Row) -> Bytes {
         row.refuse();
         return Items::new(row.alloc());
     }
-    match write_eit(row.alloc(), &head, status, &events) {
-        Ok(body) => body,
-        Err(_) => {
-            row.lack_memory();
-            Items::new(row.alloc())
-        }
-    }
+    let body = write_eit(row.alloc(), &head, status, &events);
+    row.made(body).unwrap_or(Items::new(row.alloc()))
 }
 
 // `stream 0405 network 233A segment_last 7 last_table 51`.

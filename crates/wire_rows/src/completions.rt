@@ -1,8 +1,9 @@
 // Completions of lists of sections.
-use row_lines::{MOST, Row};
+use row_lines::{MOST, Row, say};
 use section_codec::{Key, LongHeader};
-use si_base::{Bytes, Items};
-use std::alloc::{AllocError, Global};
+use si_base::Items;
+use std::alloc::Global;
+use std::fmt::Write;
 use sub_collect::{Collector, TakeStop};
 
 /// `take SECTION / SECTION ..`: each section that shows a completion, and then the latest completions of tables 42, 40 and 50. A section is
@@ -10,20 +11,16 @@ use sub_collect::{Collector, TakeStop};
 /// body, as `42 v0 0-3/3`.
 pub fn take(row: &mut Row) {
     let mut collector = Collector::open(row.alloc());
-    take_all(row, &mut collector);
-    put_latest(row, &collector, 0x42);
-    put_latest(row, &collector, 0x40);
-    put_latest(row, &collector, 0x50);
-}
-
-fn take_all(row: &mut Row, collector: &mut Collector) {
     let mut place = 0;
     for _ in 0..MOST {
-        take_part(row, collector, &mut place);
+        take_part(row, &mut collector, &mut place);
         if !row.goes_on() {
             break;
         }
     }
+    put_latest(row, &collector, 0x42);
+    put_latest(row, &collector, 0x40);
+    put_latest(row, &collector, 0x50);
 }
 
 // Sections of one table and version.
@@ -41,19 +38,16 @@ fn take_part(row: &mut Row, collector: &mut Collector, place: &mut u64) {
     let body = row.bytes();
     for number in sections.from..=sections.to {
         match take_one(row.alloc(), collector, sections, number, &body) {
-            Ok(Some(version)) => put_shown(row, *place, version),
+            Ok(Some(version)) => {
+                row.begin_part();
+                say!(row; " at {place} version {version}");
+            }
             Ok(None) => {}
-            Err(TakeStop::TooMany) => row.put_number(" too many at ", *place),
+            Err(TakeStop::TooMany) => say!(row; " too many at {place}"),
             Err(TakeStop::Memory) => row.lack_memory(),
         }
         *place = place.saturating_add(1);
     }
-}
-
-fn put_shown(row: &mut Row, place: u64, version: u8) {
-    row.begin_part();
-    row.put_number(" at ", place);
-    row.put_number(" version ", u64::from(version));
 }
 
 fn take_one(
@@ -71,18 +65,12 @@ fn take_one(
         number,
         last: sections.last,
     };
-    let Ok(body) = body_of(alloc, number, body) else {
+    let number = [number];
+    let body = if body.is_empty() { &number } else { body };
+    let Ok(body) = Vec::from_slice(alloc, body) else {
         return Err(TakeStop::Memory);
     };
-    collector.take(key_of(sections.table), &header, body)
-}
-
-// This body, or the number where it is empty.
-fn body_of(alloc: Global, number: u8, body: &[u8]) -> Result<Bytes, AllocError> {
-    if body.is_empty() {
-        return Ok(Items::of(Vec::from_slice(alloc, &[number])?));
-    }
-    Ok(Items::of(Vec::from_slice(alloc, body)?))
+    collector.take(key_of(sections.table), &header, Items::of(body))
 }
 
 fn part(row: &mut Row) -> Sections {
@@ -114,11 +102,9 @@ fn put_latest(row: &mut Row, collector: &Collector, table: u8) {
         return;
     };
     row.begin_part();
-    row.put_byte(" table ", table);
-    row.put_number(" version ", u64::from(completed.version));
+    say!(row; " table {table:02X} version {}", completed.version);
     for section in completed.sections.as_slice() {
-        row.put_number(" | ", u64::from(section.number));
-        row.put(":");
+        say!(row; " | {}:", section.number);
         row.put_bytes(section.body.as_slice());
     }
 }

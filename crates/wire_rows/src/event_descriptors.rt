@@ -1,12 +1,13 @@
 // Descriptors both ways.
 use crate::events::{event, genres, have_nibbles, is_codable, rating};
 use descriptors::{
-    ExtendedPiece, RawDescs, ShortEvent, event_len, read_descriptors, write_content,
-    write_event_descriptors, write_extended_event, write_parental_rating, write_short_event,
+    ExtendedPiece, ShortEvent, event_len, read_descriptors, write_content, write_event_descriptors,
+    write_extended_event, write_parental_rating, write_short_event,
 };
-use guide_model::{Event, Shown};
-use row_lines::{Row, code, put_appended, put_read, text};
+use guide_model::{Event, RawDescs, Shown};
+use row_lines::{Row, code, put_appended, put_read, say, text};
 use si_base::Items;
+use std::fmt::Write;
 
 /// `write_content GENRES`.
 pub fn content(row: &mut Row) {
@@ -127,7 +128,6 @@ pub fn event_sizes(row: &mut Row) {
 fn put_sizes(row: &mut Row, descs: &RawDescs) {
     for desc in descs.as_slice() {
         row.begin_part();
-        row.put_byte(" ", desc.tag);
-        row.put_number(" of ", desc.body.len() as u64);
+        say!(row; " {:02X} of {}", desc.tag, desc.body.len());
     }
 }

@@ -6,44 +6,15 @@ ghost use Rattle.table_bodies.specs.Eit.{IsCodable};
 
 use guide_model::{Event, Genre, Genres, Rating, ScreenEvent, Txt, coded_len};
 use row_lines::{
-    MOST, Row, code, code_in, duration, moment, put_code, put_letters, put_shown, repeated, text,
+    MOST, Row, code, code_in, duration, moment, put_code, put_shown, repeated, say, text, text_of,
 };
 use si_base::Items;
 use si_time::{Moment, write_duration, write_moment};
+use std::fmt::Write;
 
 /// An event: its id, start, duration and language, its name and its short and extended text, its rating or `-`, and its genres or
 /// `-`, with bars between.
 pub fn event(row: &mut Row) -> Option<Event> {
-    let head = head_of(row);
-    let language = head.language;
-    let name = text_and_bar(row)?;
-    let short = text_and_bar(row)?;
-    let extended = text_and_bar(row)?;
-    let rating = rating(row);
-    row.pass("|");
-    Some(Event {
-        id: head.id,
-        start: head.start,
-        seconds: head.seconds,
-        language,
-        name,
-        short,
-        extended,
-        rating,
-        genres: genres(row),
-    })
-}
-
-// What an event has before its texts.
-#[derive(Clone, Copy)]
-struct Head {
-    id: u16,
-    start: Moment,
-    seconds: u32,
-    language: [u8; 3],
-}
-
-fn head_of(row: &mut Row) -> Head {
     let id = row.short();
     row.pass("|");
     let start = moment(row);
@@ -52,12 +23,22 @@ fn head_of(row: &mut Row) -> Head {
     row.pass("|");
     let language = code(row);
     row.pass("|");
-    Head {
+    let name = text_and_bar(row)?;
+    let short = text_and_bar(row)?;
+    let extended = text_and_bar(row)?;
+    let rating = rating(row);
+    row.pass("|");
+    Some(Event {
         id,
         start,
         seconds,
         language,
-    }
+        name,
+        short,
+        extended,
+        rating,
+        genres: genres(row),
+    })
 }
 
 fn text_and_bar(row: &mut Row) -> Option<Txt> {
@@ -139,8 +120,7 @@ pub fn is_codable(event: &Event) -> bool
 
 /// Appends an event that is shown.
 pub fn put_event(row: &mut Row, event: &ScreenEvent) {
-    row.put_number(" ", u64::from(event.id));
-    row.put(" |");
+    say!(row; " {} |", event.id);
     put_times(row, event.start, event.seconds);
     put_code(row, &event.language);
     row.put(" |");
@@ -159,10 +139,8 @@ fn put_times(row: &mut Row, start: Moment, seconds: u32) {
     if start.0 >= 65_536 * 86_400 || seconds >= 360_000 {
         return row.refuse();
     }
-    put_letters(row, &write_moment(start));
-    row.put(" |");
-    put_letters(row, &write_duration(seconds));
-    row.put(" |");
+    let (start, length) = (write_moment(start), write_duration(seconds));
+    say!(row; " {} | {} |", text_of(&start), text_of(&length));
 }
 
 /// Appends genres, or `-` where there is none.
@@ -171,9 +149,7 @@ pub fn put_genres(row: &mut Row, genres: &[Genre]) {
         row.put(" -");
     }
     for genre in genres {
-        row.put_number(" ", u64::from(genre.level1));
-        row.put_number(".", u64::from(genre.level2));
-        row.put_number(".", u64::from(genre.user));
+        say!(row; " {}.{}.{}", genre.level1, genre.level2, genre.user);
     }
 }
 
@@ -184,6 +160,6 @@ pub fn put_ratings(row: &mut Row, ratings: &[Rating]) {
     }
     for rating in ratings {
         put_code(row, &rating.country);
-        row.put_number(" ", u64::from(rating.value));
+        say!(row; " {}", rating.value);
     }
 }

@@ -1,44 +1,38 @@
 // What packet lists carry: their sections, and the sub-tables that are complete.
 use crate::sections::put_key;
 use guide_receiver::{DoneKey, HearStop, Receiver, write_done};
-use row_lines::{MOST, Row, packet_in};
+use row_lines::{MOST, Row, packet_in, say};
 use section_codec::Key;
+use std::fmt::Write;
 use ts_demux::{Demux, RawSection};
 use ts_packets::read_packet;
 
 /// `demux PACKET / PACKET ..`: each section that ends, with the place of the packet that ends it.
 pub fn demux(row: &mut Row) {
     let mut demux = Demux::open(row.alloc());
-    demux_all(row, &mut demux);
-    row.end_parts();
-}
-
-fn demux_all(row: &mut Row, demux: &mut Demux) {
     for place in 0..MOST {
         let packet = packet_in(row);
-        demux_one(row, demux, place, &packet);
+        demux_one(row, &mut demux, place, &packet);
         if !row.goes_on() {
             break;
         }
     }
+    row.end_parts();
 }
 
 fn demux_one(row: &mut Row, demux: &mut Demux, place: u32, packet: &[u8; 188]) {
     let Ok(shape) = read_packet(packet) else {
         return row.refuse();
     };
-    match demux.hear(packet, &shape) {
-        Ok(sections) => put_sections(row, place, sections.as_slice()),
-        Err(_) => row.lack_memory(),
+    if let Some(sections) = row.made(demux.hear(packet, &shape)) {
+        put_sections(row, place, sections.as_slice());
     }
 }
 
 fn put_sections(row: &mut Row, place: u32, sections: &[RawSection]) {
     for section in sections {
         row.begin_part();
-        row.put_number(" at ", u64::from(place));
-        row.put_hex(" pid ", section.pid);
-        row.put(" |");
+        say!(row; " at {place} pid {:04X} |", section.pid);
         row.put_bytes(section.bytes.as_slice());
     }
 }
@@ -57,9 +51,9 @@ fn receive_all(row: &mut Row, receiver: &mut Receiver) {
             Ok(dones) => put_dones(row, place, dones.as_slice()),
             Err(HearStop::Sync) => {
                 row.begin_part();
-                row.put_number(" refused sync at ", u64::from(place));
+                say!(row; " refused sync at {place}");
             }
-            Err(HearStop::TooMany) => row.put_number(" too many at ", u64::from(place)),
+            Err(HearStop::TooMany) => say!(row; " too many at {place}"),
             Err(HearStop::Memory) => row.lack_memory(),
         }
         if !row.goes_on() {
@@ -71,9 +65,9 @@ fn receive_all(row: &mut Row, receiver: &mut Receiver) {
 fn put_dones(row: &mut Row, place: u32, dones: &[DoneKey]) {
     for done in dones {
         row.begin_part();
-        row.put_number(" at ", u64::from(place));
+        say!(row; " at {place}");
         put_key(row, &done.key);
-        row.put_number(" version ", u64::from(done.version));
+        say!(row; " version {}", done.version);
     }
 }
 
@@ -85,19 +79,13 @@ pub fn line(row: &mut Row) {
         version: row.small("version"),
     };
     let mut line = Vec::new(row.alloc());
-    match write_done(row.alloc(), packet, done, &mut line) {
-        Ok(()) => put_line(row, &line),
-        Err(_) => row.lack_memory(),
-    }
-}
-
-fn put_line(row: &mut Row, line: &[u8]) {
+    row.need(write_done(row.alloc(), packet, done, &mut line).is_ok());
     row.put(" ");
-    for byte in line {
+    for byte in &line {
         match byte {
             b'\t' => row.put("\\t"),
             b'\n' => row.put("\\n"),
-            other => row.put_char(char::from(*other)),
+            other => say!(row; "{}", char::from(*other)),
         }
     }
 }

@@ -1,16 +1,21 @@
-//! Tests of bytes and hearing: the public calls of crates from `section_codec` to `guide_receiver`.
+//! Tests of bytes and hearing: the public calls of crates from `section_codec` to `guide_receiver`,
+//! and the guide that `guide_text` prints.
 //!
-//! A line of `stdin` is a call with its arguments and the answer that is wanted (`run_rows`).
+//! A line of `stdin` is a call with its arguments and the answer that is wanted (`run_rows`). Rows of
+//! guides make their sections and packets without the product's crates.
 #![tactic(auto)]
 
+mod air;
 mod bodies;
 mod completions;
 mod event_descriptors;
 mod events;
+mod guides;
 mod hearing;
 mod packets;
 mod readings;
 mod sections;
+mod spelled_sections;
 
 use row_lines::{Row, run_rows};
 use std::io;
@@ -25,14 +30,9 @@ fn answer(row: &mut Row) {
         "demux" => hearing::demux(row),
         "receive" => hearing::receive(row),
         "write_done" => hearing::line(row),
+        "hear" => guides::tell(row, true),
+        "guide" => guides::tell(row, false),
         "take" => completions::take(row),
-        call => answer_of_section(row, call),
-    }
-}
-
-// The same of the calls on sections and bodies.
-fn answer_of_section(row: &mut Row, call: &str) {
-    match call {
         "write_long" => sections::long(row),
         "write_short" => sections::short(row),
         "write_short_crc" => sections::short_crc(row),
@@ -43,12 +43,12 @@ fn answer_of_section(row: &mut Row, call: &str) {
         "write_eit" => bodies::write(row),
         "write_and_read_eit" => bodies::write_and_read(row),
         "fronts" => readings::fronts(row),
-        _ => answer_of_descriptor(row, call),
+        call => answer_of_event(row, call),
     }
 }
 
 // The same of the calls on descriptors, and of what is read of bytes alone.
-fn answer_of_descriptor(row: &mut Row, call: &str) {
+fn answer_of_event(row: &mut Row, call: &str) {
     match call {
         "write_content" => event_descriptors::content(row),
         "write_parental_rating" => event_descriptors::parental_rating(row),

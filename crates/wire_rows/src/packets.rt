@@ -1,14 +1,15 @@
 // Packets: a section cut into them, sections that share them, and what a packet is.
 ghost use Rattle.std.specs.Prelude.{◌<◌, length};
 
-use row_lines::{MOST, Row, packet_in};
+use row_lines::{MOST, Row, packet_in, say};
+use std::fmt::Write;
 use ts_packets::{BadPacket, Counters, Packer, Shape, TsPacket, packet, packets_of, read_packet};
 
 /// `packets_of LENGTH`: how many packets a section of so many bytes has.
 pub fn count(row: &mut Row) {
     let len = row.number() as usize;
     if 1 <= len && len <= 4096 {
-        row.put_number(" ", u64::from(packets_of(len)));
+        say!(row; " {}", packets_of(len));
     } else {
         row.refuse();
     }
@@ -77,7 +78,7 @@ pub fn read(row: &mut Row) {
     let packet = packet_in(row);
     match read_packet(&packet) {
         Ok(Shape::Pass) => row.put(" pass"),
-        Ok(Shape::Gap(pid)) => row.put_hex(" gap pid ", pid),
+        Ok(Shape::Gap(pid)) => say!(row; " gap pid {pid:04X}"),
         Ok(
             Shape::Load {
                 pid,
@@ -86,10 +87,8 @@ pub fn read(row: &mut Row) {
                 at,
             },
         ) => {
-            row.put_hex(" load pid ", pid);
-            row.put(if start { " start" } else { " no start" });
-            row.put_number(" counter ", u64::from(counter));
-            row.put_number(" at ", u64::from(at));
+            let start = if start { "start" } else { "no start" };
+            say!(row; " load pid {pid:04X} {start} counter {counter} at {at}");
         }
         Err(BadPacket::Sync) => row.put(" refused sync"),
     }

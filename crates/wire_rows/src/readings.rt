@@ -2,12 +2,13 @@
 use crate::bodies;
 use crate::events::{put_genres, put_ratings};
 use descriptors::{
-    ExtendedPiece, Ratings, RawDescs, ShortEvent, read_content, read_descriptors,
-    read_extended_event, read_parental_rating, read_short_event,
+    ExtendedPiece, Ratings, ShortEvent, read_content, read_descriptors, read_extended_event,
+    read_parental_rating, read_short_event,
 };
-use guide_model::Genres;
-use row_lines::{Row, put_code, put_read, put_shown};
+use guide_model::{Genres, RawDescs};
+use row_lines::{Row, put_code, put_read, put_shown, say};
 use std::alloc::Global;
+use std::fmt::Write;
 
 /// Appends what the bytes are read as by this call.
 pub fn read(row: &mut Row, call: &str, bytes: &[u8]) {
@@ -63,8 +64,7 @@ fn is_read(alloc: Global, call: &str, bytes: &[u8]) -> bool {
 fn put_descriptors(row: &mut Row, descs: &RawDescs) {
     for desc in descs.as_slice() {
         row.begin_part();
-        row.put_byte(" ", desc.tag);
-        row.put(" |");
+        say!(row; " {:02X} |", desc.tag);
         row.put_bytes(desc.body.as_slice());
     }
     row.end_parts();
@@ -87,8 +87,7 @@ fn put_texts(row: &mut Row, event: &ShortEvent) {
 }
 
 fn put_piece(row: &mut Row, piece: &ExtendedPiece) {
-    row.put_number(" number ", u64::from(piece.number));
-    row.put_number(" last ", u64::from(piece.last));
+    say!(row; " number {} last {}", piece.number, piece.last);
     put_code(row, &piece.language);
     row.put(" |");
     row.put_bytes(piece.text.as_slice());

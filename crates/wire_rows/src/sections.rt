@@ -2,11 +2,12 @@
 ghost use Rattle.std.specs.Prelude.{◌≡◌, ◌<◌};
 ghost use Rattle.section_codec.specs.Section.{longest_body};
 
-use row_lines::{Row, put_made};
+use row_lines::{Buffer, Row, put_made, say};
 use section_codec::{
     BadSection, Key, LongHeader, Section, eit_numbers, has_long_form, has_short_form, key_of,
     read_section, write_long, write_short, write_short_crc,
 };
+use std::fmt::Write;
 
 /// `write_long HEADER | BODY`: the bytes of the section.
 pub fn long(row: &mut Row) {
@@ -51,36 +52,27 @@ pub fn read(row: &mut Row) {
             row.put_bytes(body.as_slice());
         }
         Ok(Section::Short(table, body)) => {
-            row.put_byte(" short ", table);
-            row.put(" |");
+            say!(row; " short {table:02X} |");
             row.put_bytes(body.as_slice());
         }
-        Err(bad) => put_refusal(row, bad),
-    }
-}
-
-fn put_refusal(row: &mut Row, bad: BadSection) {
-    match bad {
-        BadSection::Length => row.put(" refused length"),
-        BadSection::Crc(kept, found) => {
+        Err(BadSection::Length) => row.put(" refused length"),
+        Err(BadSection::Crc(kept, found)) => {
             row.put(" refused crc kept");
             row.put_bytes(&kept.to_be_bytes());
             row.put(" found");
             row.put_bytes(&found.to_be_bytes());
         }
-        BadSection::Syntax => row.put(" refused syntax"),
-        BadSection::Memory => row.lack_memory(),
+        Err(BadSection::Syntax) => row.put(" refused syntax"),
+        Err(BadSection::Memory) => row.lack_memory(),
     }
 }
 
 fn put_header(row: &mut Row, header: &LongHeader) {
-    row.put_byte(" table ", header.table);
-    row.put_hex(" extension ", header.ext);
-    row.put_number(" version ", u64::from(header.version));
-    row.put(if header.current { " current" } else { " next" });
-    row.put_number(" section ", u64::from(header.number));
-    row.put_number(" last ", u64::from(header.last));
-    row.put(" |");
+    let LongHeader { table, ext, .. } = *header;
+    let (version, number, last) = (header.version, header.number, header.last);
+    let current = if header.current { "current" } else { "next" };
+    say!(row; " table {table:02X} extension {ext:04X} version {version} {current}");
+    say!(row; " section {number} last {last} |");
 }
 
 // `table 42 extension 0001 version 0 current section 0 last 0 |`.
@@ -116,27 +108,18 @@ pub fn bits(row: &mut Row) {
     for place in 0..bytes.len() {
         count_bits(row, &mut counts, &bytes, place);
     }
-    row.put_number(" read ", counts[0]);
-    row.put_number(" length ", counts[1]);
-    row.put_number(" crc ", counts[2]);
-    row.put_number(" syntax ", counts[3]);
+    say!(row; " read {} length {}", counts[0], counts[1]);
+    say!(row; " crc {} syntax {}", counts[2], counts[3]);
 }
 
 fn count_bits(row: &mut Row, counts: &mut [u64; 4], bytes: &[u8], place: usize) {
+    let mut other = Buffer::open(row.alloc());
     for bit in [1, 2, 4, 8, 16, 32, 64, 128] {
-        match Vec::from_slice(row.alloc(), bytes) {
-            Ok(mut other) => {
-                turn(&mut other, place, bit);
-                count(row, counts, &other);
-            }
-            Err(_) => row.lack_memory(),
-        }
-    }
-}
-
-fn turn(bytes: &mut Vec<u8>, place: usize, bit: u8) {
-    if let Some(byte) = bytes.get_mut(place) {
-        *byte ^= bit;
+        other.clear();
+        other.put(bytes);
+        other.flip(place, bit);
+        row.need(!other.lacks());
+        count(row, counts, other.as_slice());
     }
 }
 
@@ -174,11 +157,8 @@ pub fn key(row: &mut Row) {
 
 /// Appends a key.
 pub fn put_key(row: &mut Row, key: &Key) {
-    row.put_hex(" pid ", key.pid);
-    row.put_byte(" table ", key.table);
-    row.put_hex(" extension ", key.ext);
-    row.put_hex(" stream ", key.stream);
-    row.put_hex(" network ", key.network);
+    say!(row; " pid {:04X} table {:02X} extension {:04X}", key.pid, key.table, key.ext);
+    say!(row; " stream {:04X} network {:04X}", key.stream, key.network);
 }
 
 /// `eit_numbers BODY`: segment_last_section_number and last_table_id.
@@ -193,10 +173,7 @@ pub fn numbers(row: &mut Row) {
         last: 0,
     };
     match eit_numbers(&header, &body) {
-        Some((last, table)) => {
-            row.put_number(" segment_last ", u64::from(last));
-            row.put_byte(" last_table ", table);
-        }
+        Some((last, table)) => say!(row; " segment_last {last} last_table {table:02X}"),
         None => row.put(" none"),
     }
 }
