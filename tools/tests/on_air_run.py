@@ -73,9 +73,15 @@ class OnAirRun:
         return self._log.read_text(encoding="utf-8")
 
     def is_playing(self) -> bool:
-        """Whether the first swap of this process is in the journal."""
-        found = [path for path in self.state.glob("journal-*") if path.stat().st_mtime_ns > self._begun]
-        return any(b"\n=,swapped," in path.read_bytes() for path in found)
+        """Whether the first swap of this process is in the journal. A journal may be taken away while the folder is read."""
+        return any(b"\n=,swapped," in self._written_since_begun(path) for path in self.state.glob("journal-*"))
+
+    def _written_since_begun(self, path: Path) -> bytes:
+        """A file's bytes; none of one that is older than this process, or gone."""
+        try:
+            return path.read_bytes() if path.stat().st_mtime_ns > self._begun else b""
+        except FileNotFoundError:
+            return b""
 
     def status(self) -> Dict[str, Any]:
         """The status file; of one that is not written yet nothing."""
