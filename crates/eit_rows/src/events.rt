@@ -15,15 +15,22 @@ fn event(row: &mut Row, start: &str) -> EventAt {
     }
 }
 
+// Refuses a word that does not end an event.
+fn check_end(row: &mut Row, word: &str) {
+    if !row.is_end(word) {
+        row.refuse();
+    }
+}
+
 // How often it stands. The word after it is read.
 fn times(row: &mut Row) -> u32 {
     let word = row.word();
     let Some(times) = word.strip_prefix('*') else {
-        let _ends = row.is_end(word);
+        check_end(row, word);
         return 1;
     };
-    let behind = row.word();
-    let _ends = row.is_end(behind);
+    let after = row.word();
+    check_end(row, after);
     row.known(times.parse::<u32>().ok(), 0)
 }
 

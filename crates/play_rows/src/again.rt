@@ -37,7 +37,7 @@ fn put_again<W: World>(bench: &mut Bench<W>, journal: &str) {
 /// `WORDS ; - ; INPUT ; FILE ; ..`: what a run leaves, how many entries its journal has and how many of them are done edits, and what
 /// `play` makes of that journal.
 pub fn tell_again<W: World>(bench: &mut Bench<W>, row: &str) -> Option<()> {
-    let case = bench.take(row)?;
+    let case = bench.take_faultless(row)?;
     bench.run(case.words, NONE);
     put_ends(&mut bench.answer, &bench.left);
     let mut journal = Buffer::open(bench.alloc);

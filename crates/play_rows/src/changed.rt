@@ -42,7 +42,7 @@ fn tally_turns<W: World>(
 /// `CHANGE WORDS ; - ; SCRIPT`
 pub fn tell_changes<W: World>(bench: &mut Bench<W>, row: &str) -> Option<()> {
     let (change, row) = cut(row);
-    let case = bench.take(row)?;
+    let case = bench.take_faultless(row)?;
     bench.run("play", NONE);
     let mut air = Buffer::open(bench.alloc);
     air.put(bench.left.air());

@@ -40,7 +40,7 @@ fn found<W: World>(bench: &mut Bench<W>, words: &str, whole: &[u8], most: usize)
 /// `N WORDS ; - ; RECORDING`
 pub fn tell_cut_off<W: World>(bench: &mut Bench<W>, row: &str) -> Option<()> {
     let (most, row) = cut(row);
-    let case = bench.take(row)?;
+    let case = bench.take_faultless(row)?;
     let mut whole = Buffer::open(bench.alloc);
     whole.put(bench.input.as_slice());
     let count = found(bench, case.words, whole.as_slice(), number(most)?)?;

@@ -56,7 +56,7 @@ fn put_difference(out: &mut Buffer, left: &str, kept: &str) {
 /// `N WORDS ; - ; INPUT ; FILE ..`
 pub fn tell_example<W: World>(bench: &mut Bench<W>, row: &str) -> Option<()> {
     let (place, row) = cut(row);
-    let case = bench.take(row)?;
+    let case = bench.take_faultless(row)?;
     bench.run(case.words, NONE);
     let is_live = case.words.starts_with("live/");
     let mut left = Buffer::open(bench.alloc);

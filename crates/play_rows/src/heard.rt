@@ -16,7 +16,7 @@ fn put_guide<W: World>(bench: &mut Bench<W>, words: &str, recording: &[u8], guid
 
 /// `WORDS ; - ; RECORDING ; RECORDING`
 pub fn tell_heard<W: World>(bench: &mut Bench<W>, row: &str) -> Option<()> {
-    let case = bench.take(row)?;
+    let case = bench.take_faultless(row)?;
     let one = mem::replace(&mut bench.input, Buffer::open(bench.alloc));
     let mut guide = Buffer::open(bench.alloc);
     put_guide(bench, case.words, one.as_slice(), &mut guide);

@@ -23,7 +23,7 @@ fn put_entries(out: &mut Buffer, report: &str, callers: &str) {
 pub fn tell_held<W: World>(bench: &mut Bench<W>, row: &str) -> Option<()> {
     let ([holds, callers, _], row) = words_after(row, 2);
     number(callers)?;
-    let case = bench.take(row)?;
+    let case = bench.take_faultless(row)?;
     let gate = Holding::of(bench.alloc, holds).ok()?;
     bench.run_held(case.words, NONE, &gate);
     let left = &bench.left;

@@ -39,7 +39,7 @@ fn keeps<W: World>(
 
 /// `WORDS ; - ; INPUT`
 pub fn tell_stays<W: World>(bench: &mut Bench<W>, row: &str) -> Option<()> {
-    let case = bench.take(row)?;
+    let case = bench.take_faultless(row)?;
     bench.run(case.words, NONE);
     let (status, code) = (bench.left.status(), bench.left.code());
     let mut report = Buffer::open(bench.alloc);

@@ -175,7 +175,8 @@ fn check_part(row: &mut Row, checker: &mut Checker, packets: &[TsPacket], part: 
 fn packet_of(packets: &[TsPacket], part: &str) -> Option<[u8; 188]> {
     let (number, change) = part.split_once(':').unwrap_or((part, ""));
     let mut packet = packets.get(number.parse::<usize>().ok()?)?.0;
-    if let Some((place, byte)) = change.split_once(':') {
+    if number != part {
+        let (place, byte) = change.split_once(':')?;
         let place = place.parse::<usize>().ok()?;
         let byte = u8::from_str_radix(byte, 16).ok()?;
         if place >= 188 {

@@ -50,9 +50,11 @@ fn opened(alloc: Global, regions: u8) -> Result<Player, AllocError> {
 }
 
 fn play_all(row: &mut Row, player: &mut Player, regions: u8, cut: Option<u64>) {
+    let mut is_cut = cut.is_none();
     for airing in 0..MOST {
         if cut == Some(u64::from(airing)) {
             go_on(row, player, regions);
+            is_cut = true;
         }
         let body = row.bytes();
         swap(row, player, &body);
@@ -60,6 +62,9 @@ fn play_all(row: &mut Row, player: &mut Player, regions: u8, cut: Option<u64>) {
         if !row.goes_on() {
             break;
         }
+    }
+    if !is_cut {
+        row.refuse();
     }
 }
 

@@ -23,11 +23,16 @@ pub fn assign(row: &mut Row, goes_on: bool) {
 }
 
 fn assign_all(row: &mut Row, book: &mut VersionBook, cut: Option<u64>) {
+    let mut is_cut = cut.is_none();
     for airing in 0..MOST {
         if cut == Some(u64::from(airing)) {
             go_on(row, book);
+            is_cut = true;
         }
         let bytes = row.bytes();
+        if bytes.len() > 2 {
+            row.refuse();
+        }
         row.begin_part();
         let versions = versions(row.alloc(), book, &bytes);
         if let Some(versions) = row.made(versions) {
@@ -38,6 +43,9 @@ fn assign_all(row: &mut Row, book: &mut VersionBook, cut: Option<u64>) {
         if !row.goes_on() {
             break;
         }
+    }
+    if !is_cut {
+        row.refuse();
     }
 }
 

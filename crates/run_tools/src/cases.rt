@@ -86,6 +86,12 @@ impl<'a, W: World> Bench<'a, W> {
         Some(Case { words, faults })
     }
 
+    /// Takes a case of a call in which nothing may be said to fail.
+    pub fn take_faultless<'r>(&mut self, text: &'r str) -> Option<Case<'r>> {
+        let case = self.take(text)?;
+        if case.faults == "-" { Some(case) } else { None }
+    }
+
     // Appends what is shown of the last run.
     fn show(&self, shows: &Shows, all: &mut Buffer) -> Option<()> {
         match shows.view {

@@ -35,6 +35,9 @@ struct Sections {
 
 fn take_part(row: &mut Row, collector: &mut Collector, place: &mut u64) {
     let sections = part(row);
+    if sections.from > sections.to || sections.version >= 32 {
+        row.refuse();
+    }
     let body = row.bytes();
     for number in sections.from..=sections.to {
         match take_one(row.alloc(), collector, sections, number, &body) {

@@ -42,8 +42,19 @@ pub fn read(row: &mut Row, call: &str, bytes: &[u8]) {
 pub fn fronts(row: &mut Row) {
     let call = row.word();
     let bytes = row.bytes();
+    if !is_call(call) {
+        return row.refuse();
+    }
     put_fronts(row, call, &bytes);
     row.end_parts();
+}
+
+// Whether `read` has this call.
+fn is_call(call: &str) -> bool {
+    matches!(
+        call,
+        "read_descriptors" | "read_content" | "read_parental_rating" | "read_short_event"
+    ) || matches!(call, "read_extended_event" | "read_eit")
 }
 
 fn put_fronts(row: &mut Row, call: &str, bytes: &[u8]) {

@@ -75,6 +75,15 @@ fn put_header(row: &mut Row, header: &LongHeader) {
     say!(row; " section {number} last {last} |");
 }
 
+// `current`, or `next`.
+fn is_current(row: &mut Row) -> bool {
+    let word = row.word();
+    if word != "current" && word != "next" {
+        row.refuse();
+    }
+    word == "current"
+}
+
 // `table 42 extension 0001 version 0 current section 0 last 0 |`.
 fn header(row: &mut Row) -> LongHeader {
     row.pass("table");
@@ -82,7 +91,7 @@ fn header(row: &mut Row) -> LongHeader {
         table: row.byte(),
         ext: row.hex_of("extension"),
         version: row.small("version"),
-        current: row.word() == "current",
+        current: is_current(row),
         number: row.small("section"),
         last: row.small("last"),
     };
