@@ -45,7 +45,7 @@ fn answer(row: &mut Row) {
     }
 }
 
-// The same of what is read of bytes alone.
+// The same of what is read only of bytes.
 fn answer_of_bytes(row: &mut Row, call: &str, bytes: &[u8]) {
     match call {
         "read_nit" => networks::read_network(row, bytes),

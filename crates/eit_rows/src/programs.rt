@@ -51,8 +51,8 @@ fn put_programs(row: &mut Row, entries: &Items<PatEntry>) {
 
 // A component: its stream_type, its PID, and its language or `-`, as `3:514:eng`.
 fn component_in(row: &mut Row, word: &str) -> Component {
-    let (kind, behind) = word.split_once(':').unwrap_or((word, ""));
-    let (pid, language) = behind.split_once(':').unwrap_or((behind, ""));
+    let (kind, rest) = word.split_once(':').unwrap_or((word, ""));
+    let (pid, language) = rest.split_once(':').unwrap_or((rest, ""));
     Component {
         stream_type: row.small_in(kind),
         pid: row.short_in(pid),

@@ -38,15 +38,15 @@ fn places_of(alloc: Global, script: &str, cut: Cut) -> Result<Vec<usize>, AllocE
     let mut places = Vec::new(alloc);
     let mut at = description(script).len();
     for line in script.get(at..).unwrap_or("").split_inclusive('\n') {
-        let behind = at.saturating_add(line.len());
+        let after = at.saturating_add(line.len());
         let line = line.trim_end();
         if goes_on(line) && places.last() == Some(&at) {
             places.pop();
-            places.push(behind)?;
+            places.push(after)?;
         } else if !goes_on(line) && (cut == Cut::Command || is_swap(line)) {
-            places.push(behind)?;
+            places.push(after)?;
         }
-        at = behind;
+        at = after;
     }
     Ok(places)
 }

@@ -138,8 +138,8 @@ fn follows_line_by_line(alloc: Global) -> bool {
 }
 
 // How many bytes are reported when each of 18 packets is read, and when the end is met: in the first cycle each of PAT, PMT, NIT and
-// SDT has its line, and the packet of event information two, of present and following and of the schedule; in each further cycle the SDT
-// alone.
+// SDT has its line, and the packet of event information two, of present and following and of the schedule; in each further cycle only
+// the SDT.
 const REPORTED: &[usize] = &[
     0, 19, 42, 64, 85, 85, 131, 131, 131, 131, 152, 152, 152, 152, 152, 152, 174, 174, 174,
 ];

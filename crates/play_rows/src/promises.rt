@@ -34,12 +34,12 @@ fn is_done(line: &str) -> bool {
 
 fn parts_of(report: &str) -> Parts<'_> {
     let journal = front_lines(report, is_of_journal);
-    let behind = report.get(journal.len()..).unwrap_or("");
-    let dones = front_lines(behind, is_done);
+    let after = report.get(journal.len()..).unwrap_or("");
+    let dones = front_lines(after, is_done);
     Parts {
         journal,
         dones,
-        rest: behind.get(dones.len()..).unwrap_or(""),
+        rest: after.get(dones.len()..).unwrap_or(""),
     }
 }
 
@@ -68,7 +68,7 @@ fn feed_of<'r>(run: &'r Run<'_>, place: usize) -> &'r str {
     run.files.get(place).map_or("", |file| file.text())
 }
 
-// Whether each caller has commands of its own alone, in order: the control those of its lines and the three at the end, the player
+// Whether each caller has only commands of its own, in order: the control those of its lines and the three at the end, the player
 // swaps, and the feeds those of their files.
 fn has_own_commands(alloc: Global, run: &Run, journal: &str) -> bool {
     let input = run.input.text();
@@ -91,12 +91,12 @@ fn packets_of(air: &[u8]) -> &[u8] {
 
 // A journal without its last swap.
 fn without_last_swap(alloc: Global, journal: &str) -> Buffer {
-    let (front, behind) = journal.rsplit_once(",swap\n").unwrap_or((journal, ""));
+    let (front, rest) = journal.rsplit_once(",swap\n").unwrap_or((journal, ""));
     let front = front.rsplit_once('\n').map_or("", |(front, _)| front);
     let mut left = Buffer::open(alloc);
     left.say(front);
     left.say(if front.is_empty() { "" } else { "\n" });
-    left.say(behind.split_once('\n').map_or("", |(_, behind)| behind));
+    left.say(rest.split_once('\n').map_or("", |(_, after)| after));
     left
 }
 

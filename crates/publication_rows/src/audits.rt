@@ -94,8 +94,8 @@ fn check_given(row: &mut Row, checker: &mut Checker) {
 }
 
 /// `audit QUOTA SWAPS PARTS MOMENT LINES`: what an auditor says of the packets that a player makes of so many swaps, in this order and
-/// with these changes. A part of PARTS, behind a comma, is a packet by its number from 0 on; the same with a place and a byte that stands
-/// there, behind colons; the same behind a tilde, with each of its bits changed in turn: how many of these break each rule; or `+`, for a
+/// with these changes. A part of PARTS, after a comma, is a packet by its number from 0 on; the same with a place and a byte that stands
+/// there, after colons; the same after a tilde, with each of its bits changed in turn: how many of these break each rule; or `+`, for a
 /// further swap of the auditor, which is swapped once before.
 pub fn made(row: &mut Row) {
     let quota = quota(row);

@@ -8,7 +8,7 @@ use std::alloc::{AllocError, Global};
 use std::fmt::Write;
 use ts_packets::{Counters, PidCounter, PidCounters};
 
-/// `counters COUNT PID NEXT`: the counters that go on from so many PIDs, this one and those behind it, the first with this
+/// `counters COUNT PID NEXT`: the counters that go on from so many PIDs, this one and those after it, the first with this
 /// counter and each other with one more, modulo 16. What they keep: how many, the first and the last.
 pub fn keep(row: &mut Row) {
     let count = row.number();

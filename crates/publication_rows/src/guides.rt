@@ -1,4 +1,4 @@
-// The sub-tables of what stands behind the edits of a row.
+// The sub-tables of what stands after the edits of a row.
 ghost use Rattle.std.specs.Prelude.{◌<◌, ◌*◌, IfOk, IfSome};
 ghost use Rattle.air_model.specs.Air.{CanBeTold};
 ghost use Rattle.section_codec.specs.SubTables.{AreFit};

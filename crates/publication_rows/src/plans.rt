@@ -35,8 +35,8 @@ fn put_order(row: &mut Row, order: &mut CyclePlan) {
     }
 }
 
-/// `spacing QUOTA FAST FAST FAST NEAR NEAR FAR FAR FAR FAR`: of sections with so many packets two cycles, one behind the other; how many
-/// packets a start of a Fast section is behind its last one at most, and of a Near section, each with its bound.
+/// `spacing QUOTA FAST FAST FAST NEAR NEAR FAR FAR FAR FAR`: of sections with so many packets two cycles, one after the other; how many
+/// packets a start of a Fast section is after its last one at most, and of a Near section, each with its bound.
 pub fn spacing(row: &mut Row) {
     let quota = row.long();
     let sections = [

@@ -22,7 +22,7 @@ const MOMENT: Moment = Moment(4_257_233_100);
 
 /// `play BODY / BODY ..`: the packets of the cycles of an SDT of one section, with one body after the other, each aired at 12:45:00 on
 /// 13 October 1993. `play_local REGIONS | ..`: the same of a player with the offsets of so many regions. `play_on COUNT | ..`: the same,
-/// where behind so many airings a player goes on that was made of what the first one keeps. `play_local_on REGIONS COUNT | ..`: both.
+/// where after so many airings a player goes on that was made of what the first one keeps. `play_local_on REGIONS COUNT | ..`: both.
 pub fn play(row: &mut Row, is_local: bool, goes_on: bool) {
     let regions = regions(row, is_local);
     let cut = if goes_on { Some(row.number()) } else { None };
@@ -86,7 +86,7 @@ fn resumed(alloc: Global, player: &Player, regions: u8) -> Result<Player, AllocE
     Player::resume(alloc, QUOTA, offsets, versions, counters.as_slice())
 }
 
-/// `keep BODY / BODY ..`: what the player keeps behind these cycles: of each key its PID, its table_id, its
+/// `keep BODY / BODY ..`: what the player keeps after these cycles: of each key its PID, its table_id, its
 /// table_id_extension, the other two numbers, the version and the bodies of its sections; and of each PID that had a packet
 /// its counter. `keep_local REGIONS | ..`: the same of a player with the offsets of so many regions.
 pub fn keep(row: &mut Row, is_local: bool) {

@@ -10,7 +10,7 @@ use std::fmt::Write;
 use version_book::VersionBook;
 
 /// `assign AIRING / AIRING ..`: the versions of each airing's sub-tables. An airing is the byte of table 50 and, where it is aired,
-/// that of table 51. `assign_on COUNT | ..`: the same, where behind so many airings a book goes on that was made of what the first one
+/// that of table 51. `assign_on COUNT | ..`: the same, where after so many airings a book goes on that was made of what the first one
 /// keeps.
 pub fn assign(row: &mut Row, goes_on: bool) {
     let mut cut = None;

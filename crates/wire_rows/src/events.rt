@@ -87,8 +87,8 @@ fn append_genre(row: &mut Row, word: &str, genres: &mut Vec<Genre>) {
 }
 
 fn genre(row: &mut Row, word: &str) -> Genre {
-    let (level1, behind) = word.split_once('.').unwrap_or(("", ""));
-    let (level2, user) = behind.split_once('.').unwrap_or(("", ""));
+    let (level1, rest) = word.split_once('.').unwrap_or(("", ""));
+    let (level2, user) = rest.split_once('.').unwrap_or(("", ""));
     Genre {
         level1: row.small_in(level1),
         level2: row.small_in(level2),

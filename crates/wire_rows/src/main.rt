@@ -47,7 +47,7 @@ fn answer(row: &mut Row) {
     }
 }
 
-// The same of the calls on descriptors, and of what is read of bytes alone.
+// The same of the calls on descriptors, and of what is read only of bytes.
 fn answer_of_event(row: &mut Row, call: &str) {
     match call {
         "write_content" => event_descriptors::content(row),

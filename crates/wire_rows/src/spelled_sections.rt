@@ -59,7 +59,7 @@ fn front_of(row: &mut Row) -> Front {
     }
 }
 
-// The sign behind a front, which may be `badcrc` and this one.
+// The sign after a front, which may be `badcrc` and this one.
 fn sign_of<'r>(row: &mut Row<'r>, other: &str) -> &'r str {
     let sign = row.word();
     if !sign.is_empty() && sign != "badcrc" && sign != other {
@@ -82,7 +82,7 @@ fn other_front(row: &mut Row, word: &str) -> Front {
     }
 }
 
-// `EXTENSION vVERSION NUMBER/LAST`, and `next` or `badcrc` behind it
+// `EXTENSION vVERSION NUMBER/LAST`, and `next` or `badcrc` after it
 fn long_front(row: &mut Row, pid: u16, table: u8) -> Front {
     let extension = row.short();
     let version = row.word().strip_prefix('v').unwrap_or("");
@@ -115,7 +115,7 @@ fn short_front(pid: u16, table: u8, crc: Option<bool>) -> Front {
     }
 }
 
-// The bytes of a section: table_id, section_syntax_indicator, the bit behind it, which is 0 in PAT and PMT alone, reserved ones and
+// The bytes of a section: table_id, section_syntax_indicator, the bit after it, which is 0 only in PAT and PMT, reserved ones and
 // section_length; the header and the body; and the CRC_32.
 fn bytes_of(alloc: Global, front: Front, body: &[u8]) -> Buffer {
     let header_len = if front.header.is_some() { 5 } else { 0 };
