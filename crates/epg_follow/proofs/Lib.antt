@@ -22,5 +22,6 @@ pub mod AgainFacts
 pub mod RecoveryFacts
 pub mod FoldFacts
 pub mod EndingFacts
+pub mod UnsentFacts
 pub mod LeavingFacts
 pub mod ManyRunsFacts

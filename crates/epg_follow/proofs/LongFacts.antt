@@ -1,20 +1,23 @@
 -- What is left over the text of an input that is followed.
-use Rattle.std.proofs.Common.{◌≡◌, ℕ, List, refl, sym, ◌∙◌, subst, inl, inr}
-use Rattle.std.specs.Prelude.{Option, Some, Err}
+use Rattle.std.proofs.Common.{◌≡◌, ◌⊎◌, ℕ, List, refl, sym, ◌∙◌, subst, inl, inr}
+use Rattle.std.specs.Prelude.{Option, Some, Ok, Err}
 use Rattle.si_causes.specs.Reading.{Reading, fresh_to, text_left}
 use Rattle.si_causes.proofs.TextFacts.{fresh_text_to}
 use Rattle.si_causes.specs.declared.stop.ReadStop.TheVariants.{Failed, TooLong as Overlong}
-use Rattle.input_lines.specs.Ahead.{Ahead}
+use Rattle.input_lines.specs.Ahead.{Ahead, Came, Found}
 use Rattle.mux_model.specs.declared.mux.Mux.{Mux}
+use Rattle.mux_config.specs.Descriptions.{Description}
 use Rattle.mux_config.specs.declared.stop.MuxStop.{MuxStop}
 use Rattle.mux_config.specs.declared.stop.MuxStop.TheVariants as mux
 use Rattle.mux_config.specs.Reads.{ReadMux}
 use Rattle.epg_report.specs.declared.status.Status.{Status}
-use Rattle.epg_report.specs.declared.status.Status.TheVariants.{Memory}
+use Rattle.epg_report.specs.declared.status.Status.TheVariants.{Memory, ReadFault}
+use Rattle.epg_report.specs.declared.status.Origin.TheVariants.{Input}
 use Rattle.epg_report.specs.Ends.{or_report}
 use Rattle.epg_report.specs.Texts.{fault_lines}
 use Rattle.epg_report.specs.Told.{ReportTaken, Reported}
 use Rattle.epg_play.specs.Leaves.{mux_stop, status_for}
+use Rattle.epg_play.specs.Over.{LeavesBy, described_within}
 use Rattle.epg_play.specs.Script.{long_limit}
 use Rattle.epg_play.proofs.PlayedFacts.{undescribed_over}
 use Rattle.epg_follow.specs.Finish.{EndsIdle}
@@ -46,3 +49,18 @@ own_status (mux.Fault fault) = refl
 own_status (mux.Read Overlong) = refl
 own_status (mux.Read Failed) = refl
 own_status mux.Memory = refl
+
+-- ---- a text with a description
+
+-- What a run leaves whose input did not fail: memory was wanting before any step, or it is what is left behind the description.
+pub behind_long : (Idle : Status → Type 0) (Behind : Mux → Ahead → Status → Type 0) (text : List ℕ) (left : Option (List ℕ)) (mux : Mux) (lines : Ahead)
+    → described_within long_limit text ≡ Came (Ok mux) lines → (status : Status) → ¬ (status ≡ ReadFault Input) → LeavesLong Idle Behind text left status
+    → ((status ≡ Memory) × Idle Memory) ⊎ Behind mux lines status
+behind_long Idle Behind text left mux lines is Memory read (inl idle) = inl (refl, idle)
+behind_long Idle Behind text left mux lines is Memory read (inr (m, ls, other, behind)) =
+    let same : Came (Ok m) ls ≡ Came (Ok mux) lines = sym other ∙ is in
+    let own : m ≡ mux = cc same in
+    let ahead : ls ≡ lines = cc same in
+    inr (subst (λ (l : Ahead). Behind mux l Memory) ahead (subst (λ (x : Mux). Behind x ls Memory) own behind))
+behind_long Idle Behind text left mux lines is (ReadFault Input) read leaves = absurd (read refl)
+behind_long Idle Behind text left mux lines is status read leaves = inr (subst (λ (found : Found Description). LeavesBy Idle Behind found status) is leaves)

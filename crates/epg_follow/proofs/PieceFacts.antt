@@ -1,28 +1,31 @@
--- The steps of the entries that following a script adds were read from lines.
-use Rattle.std.proofs.Common.{◌≡◌, ℕ, Bool, false, List, [], ◌∷◌, ◌++◌, subst, inl, inr}
-use Rattle.std.specs.Prelude.{Option, Some, None}
+-- The steps of the entries that following a script adds were read from lines, and the entries are legal.
+use Rattle.std.proofs.Common.{◌≡◌, ℕ, Bool, true, false, List, [], ◌∷◌, ◌++◌, refl, sym, subst}
+use Rattle.std.specs.Prelude.{Option, Some, None, if◌then◌else◌}
 use Rattle.std.specs.List.{AllByRecursion}
-use Rattle.std.proofs.lemmas.Bool.{cases_Bool}
 use Rattle.input_lines.specs.Ahead.{Ahead}
 use Rattle.input_lines.specs.Ahead as reading
 use Rattle.mux_model.specs.declared.mux.Mux.{Mux}
 use Rattle.journal_model.specs.declared.step.Outcome.{Outcome}
 use Rattle.journal_model.specs.declared.step.Entry.{Entry}
 use Rattle.journal_model.specs.Steps.{Command, IsStepInWindow, IsTypedStep}
-use Rattle.desk_core.specs.Journal.{entry_after, journal_after}
+use Rattle.desk_core.specs.Journal.{LegalAfter, entry_after, journal_after}
 use Rattle.journal_model.specs.Raising.{all_raised}
 use Rattle.script_lines.specs.declared.script.ScriptItem.TheVariants.{Step as step, Kept, End}
+use Rattle.script_notes.specs.declared.why.Why.{Why}
+use Rattle.script_notes.specs.declared.why.Why.TheVariants.{Disagrees}
 use Rattle.script_notes.specs.declared.noting.Noting.{Noting}
 use Rattle.script_notes.specs.declared.noting.Noting.TheVariants.{Bad, Item}
 use Rattle.script_notes.specs.Notings.{notings_ahead}
 use Rattle.epg_play.proofs.TypedFacts.{AreTypedCommands}
 use Rattle.epg_play.specs.Outcomes.{is_outcome}
+use Rattle.epg_play.specs.Script.{Stop, NoCommand, Disagreed}
 use Rattle.script_notes.specs.Pieces.{Piece, Entered, Noted, entries_in}
 use Rattle.script_notes.specs.Laws.{IsNotingInWindow, IsTypedNoting}
 use Rattle.script_notes.proofs.NotingsAhead.{notings_typed, notings_window}
-use Rattle.epg_follow.specs.Course.{Followed, addition, and_others, entries_with, followed, followed_of, made_by, of_kept}
+use Rattle.epg_follow.specs.Course.{Agrees, Followed, addition, and_others, entries_with, followed, followed_of, made_by, of_kept, unless_kept}
+use Rattle.epg_follow.proofs.AlikeFacts.{entry_unraised}
 
-abbrev IsReadEntry : Entry → Type 0
+abbrev pub IsReadEntry : Entry → Type 0
 IsReadEntry e = IsTypedStep e.step × IsStepInWindow e.step
 
 -- the steps of the entries among pieces were read
@@ -50,26 +53,29 @@ front_read [] behind read = tt
 front_read (Entered e ∷ front) behind read = (read.0, front_read front behind read.1)
 front_read (Noted n why ∷ front) behind read = front_read front behind read
 
-module _ (keep : Bool) (shift : ℕ) (mux : Mux) where
-  kept_read : (n : ℕ) (kept : Outcome) (made : Option Outcome) (others : Followed) → AreRead others.pieces → AreRead (and_others (of_kept keep n kept made) others).pieces
-  kept_read n kept None others read = read
-  kept_read n kept (Some found) others read = elim (cases_Bool (is_outcome kept found)) [
-    | inl e ↦ rw e read
-    | inr e ↦ rw e (elim (cases_Bool keep) [
-      | inl k ↦ rw k read
-      | inr k ↦ rw k tt
-    ])
-  ]
+-- ---- what a line adds
 
+-- A line at fault, and one that keeps an outcome, add no entry to those of the others.
+module _ (P : List Entry → Type 0) (none : P []) (others : Followed) (have : P (entries_in others.pieces)) where
+  noted_have : (keep : Bool) (n : ℕ) (why : Why) (stop : Stop) (comment : List Piece) → P (entries_in (and_others (unless_kept keep (Noted n why) stop comment) others).pieces)
+  noted_have true n why stop comment = have
+  noted_have false n why stop comment = none
+
+  kept_have : (keep : Bool) (n : ℕ) (kept : Outcome) (made : Option Outcome) → P (entries_in (and_others (of_kept keep n kept made) others).pieces)
+  kept_have keep n kept None = have
+  kept_have keep n kept (Some found) = go (is_outcome kept found)
+    where
+      go : (same : Bool) → P (entries_in (and_others (if same then Agrees else unless_kept keep (Noted n (Disagrees kept found)) (Disagreed n kept found) []) others).pieces)
+      go true = have
+      go false = noted_have keep n (Disagrees kept found) (Disagreed n kept found) []
+
+module _ (keep : Bool) (shift : ℕ) (mux : Mux) where
   line_read : (before : List Entry) (made : Option Outcome) (noting : Noting) (others : Followed) → IsReadNoting noting → AreRead others.pieces
       → AreRead (and_others (addition keep shift mux before made noting) others).pieces
   line_read before made (Item (step who s)) others is read = (is, read)
-  line_read before made (Item (Kept n kept)) others is read = kept_read n kept made others read
+  line_read before made (Item (Kept n kept)) others is read = kept_have (AllByRecursion IsReadEntry) tt others read keep n kept made
   line_read before made (Item End) others is read = read
-  line_read before made (Bad n why) others is read = elim (cases_Bool keep) [
-    | inl k ↦ rw k read
-    | inr k ↦ rw k tt
-  ]
+  line_read before made (Bad n why) others is read = noted_have (AllByRecursion IsReadEntry) tt others read keep n why (NoCommand n) (Noted n why ∷ [])
 
   all_read : (before : List Entry) (made : Option Outcome) (notings : List Noting) (stop : reading.Stop) → AllByRecursion IsReadNoting notings
       → AreRead (followed_of keep shift mux before made notings stop).pieces
@@ -80,6 +86,26 @@ module _ (keep : Bool) (shift : ℕ) (mux : Mux) where
 pub followed_read : (keep : Bool) (shift : ℕ) (mux : Mux) (before : List Entry) (lines : Ahead) → AreRead (followed keep shift mux before lines).pieces
 followed_read keep shift mux before lines =
     all_read keep shift mux before None (notings_ahead false lines).0 (notings_ahead false lines).1 (both_read (notings_ahead false lines).0 (notings_typed false lines) (notings_window false lines))
+
+-- ---- they are legal
+
+module _ (keep : Bool) (mux : Mux) where
+  all_legal : (notings : List Noting) (before : List Entry) (made : Option Outcome) (stop : reading.Stop) → LegalAfter mux before (entries_in (followed_of keep 0 mux before made notings stop).pieces)
+  all_legal [] before made stop = tt
+  all_legal (Item (step who s) ∷ notings) before made stop =
+      let e = entry_after mux before (who, s) in
+      subst (λ (x : Entry). LegalAfter mux before (x ∷ entries_in (followed_of keep 0 mux (before ++ e ∷ []) (Some x.outcome) notings stop).pieces)) (sym (entry_unraised e))
+      (refl, all_legal notings (before ++ e ∷ []) (Some e.outcome) stop)
+  all_legal (Item (Kept n kept) ∷ notings) before made stop =
+      kept_have (LegalAfter mux before) tt (followed_of keep 0 mux before None notings stop) (all_legal notings before None stop) keep n kept made
+  all_legal (Item End ∷ notings) before made stop = all_legal notings before None stop
+  all_legal (Bad n why ∷ notings) before made stop =
+      noted_have (LegalAfter mux before) tt (followed_of keep 0 mux before None notings stop) (all_legal notings before None stop) keep n why (NoCommand n) (Noted n why ∷ [])
+
+pub followed_legal : (keep : Bool) (mux : Mux) (before : List Entry) (lines : Ahead) → LegalAfter mux before (entries_in (followed keep 0 mux before lines).pieces)
+followed_legal keep mux before lines = all_legal keep mux (notings_ahead false lines).0 before None (notings_ahead false lines).1
+
+-- ---- commands
 
 -- the commands whose entries are among pieces
 pub commands_read : (shift : ℕ) (mux : Mux) (before : List Entry) (commands : List Command) (pieces : List Piece) → entries_in pieces ≡ all_raised shift (journal_after mux before commands)

@@ -48,7 +48,7 @@ all_take : {X : Type 0} (P : X → Type 0) (k : ℕ) (xs : List X) → AllByRecu
 all_take P k xs h = all_front P (take k xs) (drop k xs) (subst (AllByRecursion P) (sym (take-append-drop k xs)) h)
 
 -- the first of legal entries are legal
-legal_front : (mux : Mux) (before xs ys : List Entry) → LegalAfter mux before (xs ++ ys) → LegalAfter mux before xs
+pub legal_front : (mux : Mux) (before xs ys : List Entry) → LegalAfter mux before (xs ++ ys) → LegalAfter mux before xs
 legal_front mux before [] ys legal = tt
 legal_front mux before (x ∷ xs) ys legal = (legal.0, legal_front mux (before ++ x ∷ []) xs ys legal.1)
 

@@ -35,9 +35,9 @@
 //! count on over these, and no version has two contents within 31 airings (`near_versions_differ`).
 //! Where at most 14 packets of each PID are lost, a strict receiver hears both runs as one air.
 //!
-//! What a run leaves that ended, or whose report or air failed, stands so too
-//! (`what_is_left_stands`), also where the report has what a run prints at its end
-//! (`endings_have_no_outcome`), if the moments in that ending can be written.
+//! What a run leaves that ended, or whose report or air failed, or that ran out of memory, stands so
+//! too (`what_is_left_stands`), also where the report has what a run prints at its end
+//! (`endings_have_no_outcome`).
 //!
 //! Tested by whole runs in `play_rows`: lines at fault of each kind, each write and each read that
 //! fails in turn, how much the air has after a failed write, the order of entries, cycles and

@@ -3,7 +3,7 @@ ghost use Rattle.epg_follow.specs.Again.{DescriptionsGoOn, ReportsAreScripts, Re
 ghost use Rattle.epg_follow.specs.Bridges.{KillsAreBridged};
 ghost use Rattle.epg_follow.specs.Endings.{EndingsHaveNoOutcome};
 ghost use Rattle.epg_follow.specs.Folds.{CheckpointsAreOne, FoldsAgain};
-ghost use Rattle.epg_follow.specs.Leaving.{FollowingLeavesWhatStands, WhatIsLeftStands};
+ghost use Rattle.epg_follow.specs.Leaving.{FollowRunsLeaveWhatStands, FollowingLeavesWhatStands, WhatIsLeftStands};
 ghost use Rattle.epg_follow.specs.Made.{MadeIsOne};
 ghost use Rattle.epg_follow.specs.Missing.{BridgedAirIsThinned, BridgedRunsAreHeard};
 ghost use Rattle.epg_follow.specs.Near.{VersionsDiffer};
@@ -38,11 +38,12 @@ pub fn endings_have_no_outcome()
 
 /// A run leaves what stands, whether it ended or a sink failed: its report has whole pieces and a
 /// front of what comes next, and its air the cycles of those pieces, or of the last a front. So does
-/// each run of `play --follow` (`followed`), but one that ran out of memory, where the moments in
-/// its ending can be written.
+/// each run of `play --follow` that began (`followed`), as one from nothing whose input did not fail
+/// (`runs`). Where memory was wanting for the cycle of a last swap, that front is empty.
 pub fn what_is_left_stands()
     ensures left { WhatIsLeftStands }
     ensures followed { FollowingLeavesWhatStands }
+    ensures runs { FollowRunsLeaveWhatStands }
 {}
 
 /// A run was killed, and the whole entries of its report are folded. The fold makes the very cycles
