@@ -7,7 +7,7 @@ use Rattle.si_causes.proofs.CauseFacts.{Appends-nothing}
 use Rattle.si_causes.specs.declared.stop.ReadStop.TheVariants.{Failed}
 use Rattle.si_causes.specs.Reading.{Reading, text_left}
 use Rattle.input_lines.proofs.Steps.{handed_none, handed_more, whole_more}
-use Rattle.input_lines.specs.Ahead.{Ahead, Breaks, Came, Ends as EndsAt, Stopped, ahead}
+use Rattle.input_lines.specs.Ahead.{Ahead, Breaks, Came, Stopped, ahead}
 use Rattle.input_lines.specs.Ahead as reading
 use Rattle.input_lines.specs.Reads.{Faulted, ahead_with}
 use Rattle.mux_model.specs.declared.mux.Mux.{Mux}

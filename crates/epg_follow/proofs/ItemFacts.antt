@@ -1,5 +1,5 @@
 -- What a line did, from what was written of it and sent.
-use Rattle.std.proofs.Common.{◌≡◌, ◌<◌, ◌^◌, ℕ, Bool, true, false, List, [], ◌∷◌, ◌++◌, refl, sym, ap, ◌∙◌, subst, inl, inr, arith}
+use Rattle.std.proofs.Common.{◌≡◌, ℕ, Bool, true, false, List, [], ◌∷◌, ◌++◌, refl, sym, ap, ◌∙◌, subst, inl, inr}
 use Rattle.std.specs.Prelude.{Option, Some, None, Ok, Err, Result}
 use Rattle.std.specs.Io.KnownBytes.{Appends}
 use Rattle.si_causes.specs.Causes.{AppendsFront, Rose}
@@ -9,7 +9,6 @@ use Rattle.journal_model.specs.declared.step.Step.{Step}
 use Rattle.journal_model.specs.declared.step.Step.TheVariants.{Edit, Publish, Swap, Tick}
 use Rattle.journal_model.specs.declared.step.Outcome.{Outcome}
 use Rattle.journal_model.specs.declared.step.Entry.{Entry}
-use Rattle.journal_model.specs.Raising.{CanBeRaised, raised}
 use Rattle.desk_core.specs.Journal.{Legal, entry_after}
 use Rattle.desk_core.specs.Desks.{DeskState}
 use Rattle.desk_core.specs.Lean.{StandsFor}

@@ -1,6 +1,6 @@
 -- What following the next line did, from what was read and what was done of it.
-use Rattle.std.proofs.Common.{◌≡◌, ◌≤◌, ℕ, Bool, true, false, List, refl, sym, subst, inr}
-use Rattle.std.specs.Prelude.{Option, None, is_some, Ok, Err, Result, IfErr}
+use Rattle.std.proofs.Common.{◌≡◌, ◌≤◌, ℕ, Bool, List, sym, subst, inr}
+use Rattle.std.specs.Prelude.{Option, is_some, Ok, Err, Result}
 use Rattle.si_causes.specs.Reading.{Reading}
 use Rattle.input_lines.specs.declared.stop.EditStop.{EditStop}
 use Rattle.journal_model.specs.declared.step.Entry.{Entry}
@@ -14,7 +14,7 @@ use Rattle.script_notes.specs.Held.{NotingOf}
 use Rattle.epg_follow.specs.declared.follower.Follower.{Follower}
 use Rattle.epg_follow.specs.declared.stop.FollowStop.{FollowStop}
 use Rattle.epg_follow.specs.declared.stop.FollowStop.TheVariants.{NoCommand, Disagrees, Read, Air, Report, Memory}
-use Rattle.epg_follow.specs.Items.{CanFollow, HaveCauses, IsSaid, ItemDid, LineDid, NotingCame, StaysReady, as_item}
+use Rattle.epg_follow.specs.Items.{HaveCauses, ItemDid, LineDid, NotingCame, as_item}
 
 -- a line, and not the end
 abbrev pub IsLine : Noting → Type 0

@@ -1,12 +1,12 @@
 -- A script that was followed from a checkpoint, over the text of an input.
 use Rattle.std.proofs.Common.{◌≡◌, ◌≤◌, ℕ, List, [], ◌++◌, length, refl, sym, ap, ◌∙◌, subst, inl, inr, append-nil}
-use Rattle.std.specs.Prelude.{Bool, Option, Some, None, Ok, Err}
+use Rattle.std.specs.Prelude.{Bool, Option, Some, Ok, Err}
 use Rattle.si_causes.proofs.CauseFacts.{Appends-nothing}
 use Rattle.si_causes.specs.Opening.{Files, Tries, file_at}
 use Rattle.si_causes.specs.Reading.{Reading, fresh_to}
 use Rattle.input_lines.specs.Ahead.{Ahead, Came, Found, NoCommand as NoLine, Stop as LineStop, TooLong as PastEnd, ahead}
 use Rattle.air_model.specs.Air.{Aired}
-use Rattle.cycle_player.specs.Airs.{AreMadeAt, IsAirAt}
+use Rattle.cycle_player.specs.Airs.{IsAirAt}
 use Rattle.mux_model.specs.declared.mux.Mux.{Mux}
 use Rattle.mux_config.specs.Descriptions.{Description}
 use Rattle.mux_config.specs.Reads.{ReadMux}
@@ -44,13 +44,10 @@ use Rattle.epg_play.specs.Over.{described_within}
 use Rattle.epg_play.specs.Script.{long_limit}
 use Rattle.epg_follow.proofs.GoingFacts.{took}
 use Rattle.epg_follow.proofs.LongFacts.{idle_ends, long_text}
+use Rattle.epg_follow.proofs.MadeFacts.{none_made}
 use Rattle.epg_follow.proofs.NewRuns.{followed_long}
 
 -- ---- nothing more was sent
-
-none_made : (rate : Option ℕ) (earlier : List Aired) → AreMadeAt rate earlier []
-none_made None earlier = tt
-none_made (Some rate) earlier = tt
 
 nothing_on : (mux : Mux) (journal : List Entry) (earlier : List Aired) (w : Option (List ℕ)) (f : ℕ) → HasRun mux journal earlier → AirOn mux journal [] earlier (took w w f f)
 nothing_on mux journal earlier w f run =

@@ -44,6 +44,11 @@ pub record CanRead {S : Type 0} (left : S → Option (List ℕ)) (lines : Readin
   pub going : lines.stop ≡ None
   pub held : IsHeldBy left follower.held lines
 
+-- the next line can be read and followed
+pub record CanFollowOn {S : Type 0} (left : S → Option (List ℕ)) (lines : Reading S) (follower : Follower) : Type 0 where
+  pub reader : CanRead left lines follower
+  pub ready : CanFollow follower
+
 -- no line was followed yet
 pub record IsFresh (follower : Follower) : Type 0 where
   pub made : follower.made ≡ None

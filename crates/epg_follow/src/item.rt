@@ -12,7 +12,7 @@ ghost use Rattle.epg_report.specs.Told.{told};
 ghost use Rattle.desk_core.specs.Journal.{entry_after};
 ghost use Rattle.epg_report.specs.Told.{ReportTaken};
 ghost use Rattle.epg_follow.specs.Course.{entered};
-ghost use Rattle.epg_follow.specs.Items.{CanFollow, CanRead, Falls, HasEntered, HaveCauses, IsSaid, ItemDid, LineDid, StaysReady, TookNothing, Writes, as_item};
+ghost use Rattle.epg_follow.specs.Items.{CanFollow, CanFollowOn, CanRead, Falls, HasEntered, HaveCauses, IsSaid, ItemDid, LineDid, StaysReady, TookNothing, Writes, as_item};
 ghost use Rattle.epg_follow.specs.declared.follower.Follower.{Follower as AFollower};
 ghost use Rattle.epg_follow.specs.Stops.{read_stop};
 ghost use Rattle.std.specs.Io.KnownBytes.{IsAtEnd};
@@ -246,8 +246,7 @@ pub fn follow_item<S: Source, A: Sink, R: Sink>(
     air: &mut A,
     report: &mut R,
 ) -> Result<bool, FollowStop>
-    requires reader { CanRead S.left lines.old follower.old }
-    requires ready { CanFollow follower.old }
+    requires { CanFollowOn S.left lines.old follower.old }
     ensures did { (journal : List AnEntry) → StandsFor journal follower.old.desk
         → ItemDid keep S.left S.faults lines.old lines.new journal follower.old follower.new
         (told A.written A.faults air.old air.new)

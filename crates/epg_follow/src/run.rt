@@ -16,7 +16,7 @@ ghost use Rattle.journal_model.specs.declared.step.Entry.{Entry as AnEntry};
 ghost use Rattle.desk_core.specs.Lean.{StandsFor};
 ghost use Rattle.epg_report.specs.Told.{asked, told};
 ghost use Rattle.epg_follow.specs.Going.{Stops};
-ghost use Rattle.epg_follow.specs.Items.{CanFollow, CanRead, HaveCauses, IsFresh, IsSaid, StaysReady};
+ghost use Rattle.epg_follow.specs.Items.{CanFollowOn, HaveCauses, IsFresh, IsSaid, StaysReady};
 
 use crate::finish::{end_idle, finish};
 use crate::follower::Follower;
@@ -38,8 +38,7 @@ pub fn follow_rest<S: Source, A: Sink, R: Sink>(
     air: &mut A,
     report: &mut R,
 ) -> Result<(), FollowStop>
-    requires reader { CanRead S.left lines.old follower.old }
-    requires ready { CanFollow follower.old }
+    requires can { CanFollowOn S.left lines.old follower.old }
     requires fresh { IsFresh follower.old }
     ensures did { (journal : List AnEntry) → StandsFor journal follower.old.desk
         → Stops keep S.left lines.old lines.new journal follower.old follower.new

@@ -1,15 +1,26 @@
-use Rattle.std.proofs.Common.{sym, subst}
+use Rattle.std.proofs.Common.{◌<◌, ◌^◌, ◌∙◌, ℕ, Option, ap, sym, subst}
+use Rattle.std.specs.Prelude.{IfSome}
+use Rattle.cycle_player.specs.Sending.{Sending}
+use Rattle.journal_model.specs.declared.step.Outcome.{Outcome}
+use Rattle.journal_model.specs.Steps.{IsInWindow}
 use Rattle.script_notes.specs.declared.noting.Held.{Held}
 use Rattle.script_notes.specs.Held.{IsHeldBy}
 use Rattle.epg_report.specs.Told.{told}
 use Rattle.epg_follow.proofs.EndFacts.{end_known, ends_as}
 use Rattle.epg_follow.proofs.run.follow_on.Goals as goal
 
-pub follow_rest-followed-requires-clause-reader : goal.follow_rest-followed-requires-clause-reader
-follow_rest-followed-requires-clause-reader g c = record {
-  going = c.requires.going;
-  held = subst (λ (h : Held). IsHeldBy g.S.Source.left h c.args.lines.now) (sym c.from-follower.ensures.fresh.held) tt;
-}
+pub follow_rest-followed-requires-clause-can : goal.follow_rest-followed-requires-clause-can
+follow_rest-followed-requires-clause-can g c =
+    let from = c.from-follower.ensures in
+    record {
+      reader = record { going = c.requires.going; held = subst (λ (h : Held). IsHeldBy g.S.Source.left h c.args.lines.now) (sym from.fresh.held) tt };
+      ready = record {
+        lean = (c.args.start.desk.entries, from.stands);
+        shift = subst (λ (n : ℕ). n < 10 ^ 18) (sym from.shift) c.requires.shift;
+        at_end = ap (λ (p : Sending). p.left) from.player ∙ c.requires.ended;
+        window = subst (λ (o : Option Outcome). IfSome o IsInWindow) (sym from.fresh.made) tt;
+      };
+    }
 
 pub returns-clause-followed : goal.returns-clause-followed
 returns-clause-followed g c = record {

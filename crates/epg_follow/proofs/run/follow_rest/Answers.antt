@@ -7,8 +7,8 @@ use Rattle.epg_follow.proofs.run.follow_rest.Goals as goal
 
 pub items-init : goal.items-init
 items-init g c = record {
-  reader = c.requires.reader;
-  ready = c.requires.ready;
+  reader = c.requires.can.reader;
+  ready = c.requires.can.ready;
   mux = refl;
   shift = refl;
   same = g.met.S.Source.same_at_once c.args.lines.now.source;
