@@ -13,6 +13,7 @@ pub mod ResumedRuns
 pub mod FollowRuns
 pub mod SameAsPlayFacts
 pub mod KeepingFacts
+pub mod CompletingFacts
 pub mod MadeFacts
 pub mod NearFacts
 pub mod LostFacts

@@ -8,6 +8,7 @@ pub mod Behind
 pub mod Runs
 pub mod SameAsPlay
 pub mod Keeping
+pub mod Completing
 pub mod Made
 pub mod Near
 pub mod Stands

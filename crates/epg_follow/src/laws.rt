@@ -1,4 +1,5 @@
 // Laws of following a script.
+ghost use Rattle.epg_follow.specs.Completing.{FollowResumeRunsComplete, FollowRunsComplete};
 ghost use Rattle.epg_follow.specs.Keeping.{KeepingGoesOn};
 ghost use Rattle.epg_follow.specs.SameAsPlay.{EntriesAreTheJournal, FollowIsPlay};
 
@@ -13,4 +14,12 @@ pub fn following_is_playing()
 /// where a read failed: no line at fault ends it.
 pub fn keeping_goes_on()
     ensures { KeepingGoesOn }
+{}
+
+/// A followed run whose input and sinks do not fail ends with Done, unless a line is at fault, the
+/// limit of a script is passed, or memory is wanting (`new`). So does one from a checkpoint, where
+/// opening and reading the file do not fail either (`resumed`).
+pub fn followed_runs_complete()
+    ensures new { FollowRunsComplete }
+    ensures resumed { FollowResumeRunsComplete }
 {}

@@ -20,7 +20,8 @@
 //! cut: with `--resume` it and the air before it in a row.
 //!
 //! A script without a line at fault is followed as `play` plays it (`following_is_playing`), and
-//! with `--keep-going` no line at fault ends one (`keeping_goes_on`).
+//! with `--keep-going` no line at fault ends one (`keeping_goes_on`). Where nothing outside of a run
+//! fails, the script decides its status, but for want of memory (`followed_runs_complete`).
 //!
 //! A run may be killed at any moment. `Stands` says what its report and its air have then: whole
 //! pieces and a front of the next one, and the cycles of those pieces, but perhaps only a front of
@@ -59,7 +60,7 @@ mod stop;
 
 pub use follower::Follower;
 pub use item::follow_item;
-pub use laws::{following_is_playing, keeping_goes_on};
+pub use laws::{followed_runs_complete, following_is_playing, keeping_goes_on};
 pub use recovery_laws::{
     endings_have_no_outcome, folds_make_what_was_aired, kills_are_bridged, made_cycles_are_one,
     near_versions_differ, parts_fold_as_the_whole, reports_are_scripts, runs_go_on,
