@@ -17,7 +17,8 @@ use Rattle.journal_air.specs.JournalScreenShown.{IsAsRead}
 use Rattle.journal_air.specs.Heard.{IsHeardAs}
 use Rattle.journal_air.proofs.Heard.{airs_heard}
 use Rattle.journal_air.proofs.SwapFacts.{airings-push}
-use Rattle.epg_play.specs.Script.{Script, Stop, script_in}
+use Rattle.epg_report.specs.declared.status.Status.{Status}
+use Rattle.epg_play.specs.Script.{Script, script_in}
 use Rattle.epg_play.specs.Leaves.{whole_journal}
 use Rattle.epg_play.proofs.RunFacts.{IsPlayed, IsPlayedTo}
 use Rattle.epg_play.proofs.SentFacts.{script_as_read}
@@ -43,8 +44,8 @@ front_airings mux done (c ∷ others) =
     )
 
 -- what is on air where all commands of a script were done
-pub desk_is_script : (script : Script) (stop : Stop) (mux : Mux) (desk : DeskState) → IsPlayed script stop mux desk → desk_airings desk ≡ script_airings script
-desk_is_script script stop mux desk p =
+pub desk_is_script : (script : Script) (status : Status) (mux : Mux) (desk : DeskState) → IsPlayed script status mux desk → desk_airings desk ≡ script_airings script
+desk_is_script script status mux desk p =
     ap desk_airings p.did ∙ ap (λ (o : Option Mux). airings_for o (whole_journal (record { mux = o; commands = script.commands; stop = script.stop }))) (sym p.described)
 
 -- and where the first were

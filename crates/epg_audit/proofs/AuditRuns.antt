@@ -10,16 +10,16 @@ use Rattle.mux_model.specs.declared.mux.Mux.{Mux}
 use Rattle.version_book.specs.Airings.{AiredTables}
 use Rattle.ts_packets.specs.WholePackets.{whole_packets}
 use Rattle.epg_report.specs.declared.status.Status.{Status}
-use Rattle.epg_report.specs.declared.status.Status.TheVariants.{Done, Usage, BadScript, Disagrees, BadMux, BadFeed, BadStream, TooLong as PastLimit, OpenFault, ReadFault, WriteFault, Memory, TooMany, NoView, NotAir, Short, BadCheckpoint}
-use Rattle.epg_report.specs.declared.status.Origin.TheVariants.{Input, Feed, Recording}
-use Rattle.epg_report.specs.declared.status.Outlet.TheVariants.{Air, Report}
+use Rattle.epg_report.specs.declared.status.Status.TheVariants.{Done, BadMux, BadStream, TooLong as PastLimit, OpenFault, ReadFault, WriteFault, Memory, NotAir, Short}
+use Rattle.epg_report.specs.declared.status.Origin.TheVariants.{Input, Recording}
+use Rattle.epg_report.specs.declared.status.Outlet.TheVariants.{Report}
 use Rattle.epg_report.specs.Ends.{ReportEnds, or_report}
 use Rattle.epg_report.specs.Texts.{fault_lines}
 use Rattle.epg_report.specs.Asked.{AtPath, HasAskedFor}
 use Rattle.epg_report.specs.Told.{OpenerAsked, ReportTaken, Reported, SourceGave}
 use Rattle.epg_report.proofs.Asking.{asked_memory, some_fault}
-use Rattle.epg_play.specs.Script.{Stop, Ended, NoMux, NoCommand, Disagreed, TooLong, script_in}
-use Rattle.epg_play.specs.Leaves.{whole_journal}
+use Rattle.epg_play.specs.Script.{Ended, script_in}
+use Rattle.epg_play.specs.Leaves.{script_status, whole_journal}
 use Rattle.epg_audit.specs.declared.cycles.AirCount.{AirCount}
 use Rattle.epg_audit.specs.Ends.{air_line, count_text, met_by}
 use Rattle.epg_audit.specs.Audits.{HasAuditCause}
@@ -43,7 +43,6 @@ same_met other is = refl
 leaves_met : (path : List ℕ) (nulls : Bool) (files : Files) (opener : OpenerAsked) (text : List ℕ) (left : Option (List ℕ)) (report : ReportTaken) (met : Status) → IsMetByAudit met → IsFound path nulls files opener text left met → Reported report (fault_lines met)
     → LeavesAudit path nulls files opener text left report met
 leaves_met path nulls files opener text left report Done is found took = absurd is
-leaves_met path nulls files opener text left report (WriteFault Air) is found took = absurd is
 leaves_met path nulls files opener text left report (WriteFault Report) is found took = absurd is
 leaves_met path nulls files opener text left report Memory is found took = tt
 leaves_met path nulls files opener text left report other is found took = (found, took)
@@ -65,7 +64,6 @@ leaves_of path nulls files opener text left report (Err met) status is found (in
 met_audit : (met : Status) → IsMetByAudit met → IsOfAudit met
 met_audit Done is = tt
 met_audit (WriteFault Report) is = tt
-met_audit (WriteFault Air) is = is
 met_audit other is = is
 
 of_audit : (report : ReportTaken) (audited : Result AirCount Status) (status : Status) → IfErr audited IsMetByAudit → Finished audited report status → IsOfAudit status
@@ -116,9 +114,6 @@ module _ (path : List ℕ) (nulls : Bool) (files : Files) (opener : OpenerAsked)
   abbrev Decided : Status → Type 0
   Decided status = (status ≡ Memory) ⊎ AtPath path files (DecidedBy rate nulls aired status)
 
-  stops_not : (stop : Stop) (status : Status) → (script_in text).stop ≡ Ended → (script_in text).stop ≡ stop → (Ended ≡ stop → ⊥) → Decided status
-  stops_not stop status ended is apart = absurd (apart (sym ended ∙ is))
-
   at_fault : (status : Status) → AtPath path files (IsAtFault nulls (script_in text) status)
       → AtPath path files (λ bytes. IsFaulty rate nulls aired bytes status)
   at_fault status at = record { bytes = at.bytes; file = at.file; is = at.is.faulty }
@@ -135,26 +130,15 @@ module _ (path : List ℕ) (nulls : Bool) (files : Files) (opener : OpenerAsked)
             accepted.air;
       })
   decided (WriteFault Report) leaves ended no_input no_reading no_opening no_report = absurd (no_report refl)
-  decided (WriteFault Air) leaves ended no_input no_reading no_opening no_report = absurd leaves.0
   decided Memory leaves ended no_input no_reading no_opening no_report = inl refl
-  decided (BadMux fault) leaves ended no_input no_reading no_opening no_report = stops_not (NoMux fault) (BadMux fault) ended leaves.0.stopped (λ e. cc e)
-  decided (BadScript n) leaves ended no_input no_reading no_opening no_report = stops_not (NoCommand n) (BadScript n) ended leaves.0.stopped (λ e. cc e)
-  decided (Disagrees n kept found) leaves ended no_input no_reading no_opening no_report = stops_not (Disagreed n kept found) (Disagrees n kept found) ended leaves.0.stopped (λ e. cc e)
-  decided (PastLimit Input) leaves ended no_input no_reading no_opening no_report = stops_not TooLong (PastLimit Input) ended leaves.0.stopped (λ e. cc e)
-  decided (PastLimit (Feed f)) leaves ended no_input no_reading no_opening no_report = absurd leaves.0
-  decided (PastLimit Recording) leaves ended no_input no_reading no_opening no_report = inr (at_fault (PastLimit Recording) leaves.0)
   decided (ReadFault Input) leaves ended no_input no_reading no_opening no_report = absurd (no_input refl)
-  decided (ReadFault (Feed f)) leaves ended no_input no_reading no_opening no_report = absurd leaves.0
   decided (ReadFault Recording) leaves ended no_input no_reading no_opening no_report = absurd (no_reading refl)
   decided (OpenFault n) leaves ended no_input no_reading no_opening no_report = absurd (no_opening n refl)
+  decided (PastLimit Recording) leaves ended no_input no_reading no_opening no_report = inr (at_fault (PastLimit Recording) leaves.0)
   decided (BadStream n) leaves ended no_input no_reading no_opening no_report = inr (at_fault (BadStream n) leaves.0)
   decided (NotAir n rule) leaves ended no_input no_reading no_opening no_report = inr (at_fault (NotAir n rule) leaves.0)
   decided (Short n) leaves ended no_input no_reading no_opening no_report = inr (at_fault (Short n) leaves.0)
-  decided Usage leaves ended no_input no_reading no_opening no_report = absurd leaves.0
-  decided (BadFeed f n) leaves ended no_input no_reading no_opening no_report = absurd leaves.0
-  decided (NoView service) leaves ended no_input no_reading no_opening no_report = absurd leaves.0
-  decided (TooMany n) leaves ended no_input no_reading no_opening no_report = absurd leaves.0
-  decided (BadCheckpoint n) leaves ended no_input no_reading no_opening no_report = absurd leaves.0
+  decided other leaves ended no_input no_reading no_opening no_report = cc (leaves.0.stopped ∙ ap script_status ended)
 
   -- ---- an air is not at fault
 
@@ -177,11 +161,7 @@ module _ (path : List ℕ) (nulls : Bool) (files : Files) (opener : OpenerAsked)
   no_fault airings bytes (Short n) air no_reading faulty = faulty.no_air air.air
   no_fault airings bytes (BadStream n) air no_reading faulty = omega (arith, faulty.more, faulty.less, air.whole)
   no_fault airings bytes (PastLimit Recording) air no_reading faulty = omega (arith, faulty.more, air.whole, air.limit)
-  no_fault airings bytes (PastLimit Input) air no_reading faulty = faulty
-  no_fault airings bytes (PastLimit (Feed f)) air no_reading faulty = faulty
   no_fault airings bytes (ReadFault Recording) air no_reading faulty = no_reading refl
-  no_fault airings bytes (ReadFault Input) air no_reading faulty = faulty
-  no_fault airings bytes (ReadFault (Feed f)) air no_reading faulty = faulty
   no_fault airings bytes other air no_reading faulty = faulty
 
   accept_by : (airings : List AiredTables) (bytes : List ℕ) (status : Status)
@@ -246,18 +226,10 @@ behind_met (BadMux fault) is = tt
 behind_met (OpenFault n) is = tt
 behind_met other is = is
 
-pub results_met : (result : Result AirCount Status) → IfErr result IsMetBehind → IfErr result IsMetByAudit
-results_met (Ok count) is = tt
-results_met (Err status) is = behind_met status is
-
 asked_behind : (path : List ℕ) (old new : Option (List (List ℕ))) (status : Status) → IsMetBehind status → Tries old new path → HasAskedFor path old new status
 asked_behind path old new (BadMux fault) is tried = absurd is
 asked_behind path old new (PastLimit Input) is tried = inr tried
-asked_behind path old new (PastLimit (Feed f)) is tried = tried
-asked_behind path old new (PastLimit Recording) is tried = tried
 asked_behind path old new (ReadFault Input) is tried = inr tried
-asked_behind path old new (ReadFault (Feed f)) is tried = tried
-asked_behind path old new (ReadFault Recording) is tried = tried
 asked_behind path old new Memory is tried = inr tried
 asked_behind path old new other is tried = tried
 
@@ -270,6 +242,5 @@ pub results_caused : (input_before input_mid input_now failed : ℕ) (opener : O
 results_caused input_before input_mid input_now failed opener (Ok count) is le cause back = tt
 results_caused input_before input_mid input_now failed opener (Err (ReadFault Input)) is le cause back = Rose-from input_before input_mid input_now le cause
 results_caused input_before input_mid input_now failed opener (Err (ReadFault Recording)) is le cause back = back.rose (some_fault failed cause)
-results_caused input_before input_mid input_now failed opener (Err (ReadFault (Feed f))) is le cause back = tt
 results_caused input_before input_mid input_now failed opener (Err (OpenFault n)) is le cause back = absurd is
 results_caused input_before input_mid input_now failed opener (Err other) is le cause back = tt

@@ -19,16 +19,17 @@ use Rattle.version_book.specs.Airings.{AiredTables}
 use Rattle.ts_packets.specs.WholePackets.{whole_packets}
 use Rattle.air_model.specs.Air.{CanBeSent}
 use Rattle.epg_report.specs.declared.status.Status.{Status}
-use Rattle.epg_report.specs.declared.status.Status.TheVariants.{BadStream, Memory, NotAir, ReadFault, Short, TooLong as PastLimit}
-use Rattle.epg_report.specs.declared.status.Origin.TheVariants.{Input, Feed, Recording}
+use Rattle.epg_report.specs.declared.status.Status.TheVariants.{BadStream, Done, Memory, NotAir, ReadFault, Short, TooLong as PastLimit}
+use Rattle.epg_report.specs.declared.status.Origin.TheVariants.{Recording}
 use Rattle.epg_play.specs.declared.stop.PlayStop.{PlayStop}
-use Rattle.epg_play.specs.declared.stop.PlayStop.TheVariants.{NoMux as Undescribed, NoCommand as Refused, Disagrees as Differs, Read, Air as OnAir, Memory as NoMemory}
-use Rattle.epg_play.specs.Leaves.{mux_stop}
-use Rattle.epg_play.specs.Leaves.{status_for, whole_journal}
-use Rattle.epg_play.specs.Script.{Script, Stop, Ended, no_mux, script_in, script_taken}
+use Rattle.epg_play.specs.declared.stop.PlayStop.TheVariants.{NoMux as Undescribed, Read, Air as OnAir, Memory as NoMemory}
+use Rattle.epg_play.specs.Leaves.{mux_stop, script_status, status_for, whole_journal}
+use Rattle.epg_play.specs.Played.{IsItemStop}
+use Rattle.epg_play.proofs.CourseFacts.{ended_is}
+use Rattle.epg_play.specs.Script.{Script, Stop, no_mux, script_in, script_taken}
 use Rattle.epg_play.proofs.RunFacts.{IsPlayed, IsUndescribed, PlayedBy, rest_played, went_played}
 use Rattle.epg_audit.specs.declared.cycles.AirCount.{AirCount}
-use Rattle.epg_audit.specs.Audits.{AuditDid, CycleStops, EndStops, IsCounted, IsOfScript, RecordingAudited, ScriptStops, desk_airings}
+use Rattle.epg_audit.specs.Audits.{AuditDid, CycleStops, EndStops, IsCounted, RecordingAudited, ScriptStops, desk_airings}
 use Rattle.journal_model.specs.declared.step.Entry.{Entry}
 use Rattle.epg_report.specs.Asked.{AtPath}
 use Rattle.epg_report.specs.Told.{OpenerAsked}
@@ -49,11 +50,11 @@ if_some : (o : Option Mux) (mux : Mux) (Is : Type 0) → o ≡ Some mux → Is �
 if_some None mux Is e is = cc e
 if_some (Some other) mux Is e is = is
 
-stops_behind : (path : List ℕ) (nulls : Bool) (files : Files) (opener : OpenerAsked) (script : Script) (stop : Stop) (mux : Mux) (desk : DeskState) (bytes : List ℕ) → IsPlayed script stop mux desk → file_at path files ≡ Some bytes
+stops_behind : (path : List ℕ) (nulls : Bool) (files : Files) (opener : OpenerAsked) (script : Script) (status : Status) (mux : Mux) (desk : DeskState) (bytes : List ℕ) → IsPlayed script status mux desk → file_at path files ≡ Some bytes
     → BeginsWithAir desk.mux.rate nulls (desk_airings desk) bytes
     → Tries opener.tried_old opener.tried_new path
-    → StopsBehind path nulls files opener script stop
-stops_behind path nulls files opener script stop mux desk bytes p file begins tried = record {
+    → StopsBehind path nulls files opener script status
+stops_behind path nulls files opener script status mux desk bytes p file begins tried = record {
   stopped = p.stopped;
   asked = subst (λ (o : Option Mux). AskedOnceDescribed o path opener) (sym p.described) tried;
   begins = if_some script.mux mux
@@ -65,15 +66,15 @@ stops_behind path nulls files opener script stop mux desk bytes p file begins tr
         is = subst (λ (r : Option ℕ). BeginsWithAir r nulls (script_airings script) bytes)
             (ap (λ (d : DeskState). d.mux.rate) p.did ∙ sym (ap rate_in p.described))
             (subst (λ (l : List AiredTables). BeginsWithAir desk.mux.rate nulls l bytes)
-            (desk_is_script script stop mux desk p) begins);
+            (desk_is_script script status mux desk p) begins);
       });
 }
 
 -- a script without a multiplex
 undescribed_behind : (path : List ℕ) (nulls : Bool) (files : Files) (opener : OpenerAsked) (script : Script) (stop : Stop) → script ≡ no_mux stop → opener.tried_new ≡ opener.tried_old
-    → StopsBehind path nulls files opener script stop
+    → StopsBehind path nulls files opener script (script_status stop)
 undescribed_behind path nulls files opener script stop e same =
-    subst (λ (s : Script). StopsBehind path nulls files opener s stop) (sym e) (record { stopped = refl; begins = tt; asked = same })
+    subst (λ (s : Script). StopsBehind path nulls files opener s (script_status stop)) (sym e) (record { stopped = refl; begins = tt; asked = same })
 
 pub mux_found : (path : List ℕ) (nulls : Bool) (files : Files) (opener : OpenerAsked) (text : List ℕ) (left : Option (List ℕ)) (stop : MuxStop) → IsUndescribed text left stop → opener.tried_new ≡ opener.tried_old
     → IsFound path nulls files opener text left (status_for (mux_stop stop))
@@ -85,16 +86,14 @@ mux_found path nulls files opener text left mux.Memory is same = tt
 
 script_found : (path : List ℕ) (nulls : Bool) (files : Files) (opener : OpenerAsked) (text bytes : List ℕ) (left : Option (List ℕ)) (mux : Mux) (desk : DeskState) (stop : PlayStop) → PlayedBy text left mux desk (Err stop) → file_at path files ≡ Some bytes
     → BeginsWithAir desk.mux.rate nulls (desk_airings desk) bytes
-    → Tries opener.tried_old opener.tried_new path → IsOfScript stop
+    → Tries opener.tried_old opener.tried_new path → IsItemStop stop
     → IsFound path nulls files opener text left (status_for stop)
 script_found path nulls files opener text bytes left mux desk (Undescribed fault) played file begins tried no_air = absurd no_air
-script_found path nulls files opener text bytes left mux desk (Refused n) played file begins tried no_air = stops_behind path nulls files opener (script_in text) _ mux desk bytes played file begins tried
-script_found path nulls files opener text bytes left mux desk (Differs n kept found) played file begins tried no_air = stops_behind path nulls files opener (script_in text) _ mux desk bytes played file begins tried
-script_found path nulls files opener text bytes left mux desk (Read Overlong) played file begins tried no_air = stops_behind path nulls files opener (script_in text) _ mux desk bytes played file begins tried
 script_found path nulls files opener text bytes left mux desk (Read Failed) played file begins tried no_air =
     record { taken = played.taken; behind = played.behind; text_is = played.text_is; left_is = played.left_is; stops = stops_behind path nulls files opener (script_taken played.taken) _ mux desk bytes played.played file begins tried }
 script_found path nulls files opener text bytes left mux desk OnAir played file begins tried no_air = absurd no_air
 script_found path nulls files opener text bytes left mux desk NoMemory played file begins tried no_air = tt
+script_found path nulls files opener text bytes left mux desk stop played file begins tried no_air = stops_behind path nulls files opener (script_in text) (status_for stop) mux desk bytes played file begins tried
 
 -- ---- a recording that is at fault
 
@@ -104,11 +103,7 @@ recording_found path nulls files opener text bytes left mux (NotAir n rule) e fi
 recording_found path nulls files opener text bytes left mux (Short n) e file faulty = record { bytes = bytes; file = file; is = faulty }
 recording_found path nulls files opener text bytes left mux (BadStream n) e file faulty = record { bytes = bytes; file = file; is = faulty }
 recording_found path nulls files opener text bytes left mux (PastLimit Recording) e file faulty = record { bytes = bytes; file = file; is = faulty }
-recording_found path nulls files opener text bytes left mux (PastLimit Input) e file faulty = absurd faulty.faulty
-recording_found path nulls files opener text bytes left mux (PastLimit (Feed f)) e file faulty = absurd faulty.faulty
 recording_found path nulls files opener text bytes left mux (ReadFault Recording) e file faulty = some_mux (script_in text).mux mux e
-recording_found path nulls files opener text bytes left mux (ReadFault Input) e file faulty = absurd faulty.faulty
-recording_found path nulls files opener text bytes left mux (ReadFault (Feed f)) e file faulty = absurd faulty.faulty
 recording_found path nulls files opener text bytes left mux other e file faulty = absurd faulty.faulty
 
 -- ---- a recording that was audited
@@ -148,11 +143,11 @@ module _ {S F : Type 0} (left : S → Option (List ℕ)) (gives : F → Option (
       recording_found path nulls files opener text bytes (left new.source) mux status p.described file
       (record {
         faulty = subst (λ (l : List AiredTables). IsFaulty (rate_in (script_in text).mux) nulls l
-            bytes status) (desk_is_script (script_in text) Ended mux desk p)
+            bytes status) (desk_is_script (script_in text) Done mux desk p)
             (subst (λ (r : Option ℕ). IsFaulty r nulls (desk_airings desk) bytes status)
             (ap (λ (d : DeskState). d.mux.rate) p.did ∙ sym (ap rate_in p.described))
             (e.faulty bytes tells));
-        first = inl p.stopped;
+        first = inl (ended_is _ p.stopped);
       })
 
   stop_found : (desk : DeskState) (status : Status) → ScriptStops nulls left gives mid new start (fresh mux) desk status → IsFound path nulls files opener text (left new.source) status
@@ -174,13 +169,13 @@ module _ {S F : Type 0} (left : S → Option (List ℕ)) (gives : F → Option (
       → IsAccepted path nulls files (script_in text) count
   accepted desk count did counts =
       let p = rest_played left source mid new text mux desk (Ok tt) told ahead came did.0 in
-      let same : desk_airings desk ≡ airings mux (whole_journal (script_in text)) = desk_is_script (script_in text) Ended mux desk p ∙ described p.described in
+      let same : desk_airings desk ≡ airings mux (whole_journal (script_in text)) = desk_is_script (script_in text) Done mux desk p ∙ described p.described in
       let air : IsRecordedAir mux.rate nulls (airings mux (whole_journal (script_in text))) bytes =
       subst (λ (l : List AiredTables). IsRecordedAir mux.rate nulls l bytes) same
       (subst (λ (r : Option ℕ). IsRecordedAir r nulls (desk_airings desk) bytes)
       (ap (λ (d : DeskState). d.mux.rate) p.did) (did.1 bytes tells)) in
       record {
-        ended = p.stopped;
+        ended = ended_is _ p.stopped;
         mux = mux;
         described = p.described;
         bytes = bytes;

@@ -1,9 +1,8 @@
 -- An audit, command by command.
-use Rattle.std.proofs.Common.{◌≡◌, ℕ, ◌≤◌, Bool, true, false, List, [], ◌∷◌, ◌++◌, length, length-append, take, refl, sym, ap, ◌∙◌, subst, arith, inl, inr, ◌⊎◌}
+use Rattle.std.proofs.Common.{◌≡◌, ℕ, Bool, true, false, List, [], ◌∷◌, ◌++◌, length, length-append, take, refl, sym, ap, ◌∙◌, subst, arith, inl, inr, ◌⊎◌}
 use Rattle.std.specs.Prelude.{Option, Some, Ok, Err, OnOk, Result}
 use Rattle.si_causes.specs.Reading.{Reading}
-use Rattle.si_causes.specs.declared.stop.ReadStop.TheVariants.{Failed, TooLong as Overlong}
-use Rattle.si_causes.proofs.CauseFacts.{Rose-from}
+use Rattle.si_causes.specs.declared.stop.ReadStop.TheVariants.{Failed}
 use Rattle.packet_reader.specs.Reading.{PacketReading, bytes_left}
 use Rattle.mux_model.specs.declared.mux.Mux.{Mux}
 use Rattle.journal_model.specs.declared.step.Step.{Step}
@@ -13,29 +12,26 @@ use Rattle.journal_model.specs.declared.step.Entry.{Entry}
 use Rattle.desk_core.specs.Journal.{Legal, entry_after, moment_of, publishes}
 use Rattle.desk_core.specs.Desks.{DeskState, fresh}
 use Rattle.desk_core.proofs.DerivedFacts.{not_aired}
-use Rattle.version_book.specs.Airings.{CycleForm}
 use Rattle.journal_air.specs.Air.{airings, mux_form}
-use Rattle.version_book.specs.Airings.{AiredTables}
+use Rattle.version_book.specs.Airings.{AiredTables, CycleForm}
 use Rattle.ts_packets.specs.WholePackets.{whole_packets}
 use Rattle.air_model.specs.declared.rule.Rule.{Rule}
 use Rattle.journal_air.specs.OnAir.{airing_on, is_swap}
 use Rattle.journal_air.proofs.SwapFacts.{airings-other, airings-swap}
 use Rattle.epg_report.specs.declared.status.Status.{Status}
-use Rattle.epg_report.specs.declared.status.Status.TheVariants.{Disagrees, BadStream, Memory, NotAir, ReadFault, Short, TooLong}
-use Rattle.epg_report.specs.declared.status.Origin.TheVariants.{Feed, Input, Recording}
-use Rattle.epg_report.specs.Texts.{CanBeSaid}
+use Rattle.epg_report.specs.declared.status.Status.TheVariants.{BadStream, Memory, NotAir, ReadFault, TooLong}
+use Rattle.epg_report.specs.declared.status.Origin.TheVariants.{Recording}
 use Rattle.epg_play.specs.declared.stop.PlayStop.{PlayStop}
-use Rattle.epg_play.specs.declared.stop.PlayStop.TheVariants.{NoMux as Undescribed, NoCommand as Refused, Disagrees as Differs, Read, Air as OnAir, Memory as NoMemory}
+use Rattle.epg_play.specs.declared.stop.PlayStop.TheVariants.{Read, Memory as NoMemory}
 use Rattle.journal_model.specs.Raising.{all_raised}
 use Rattle.epg_play.specs.declared.desk.ScriptDesk.{ScriptDesk}
 use Rattle.epg_play.specs.declared.item.ItemDone.TheVariants as item
-use Rattle.epg_play.specs.Items.{IsAt, ItemDid, ItemLeft, Stands, StepAt, Stops, Went}
+use Rattle.epg_play.specs.Items.{IsAt, ItemLeft, Stands, StepAt, Stops, Went}
 use Rattle.epg_play.proofs.RunFacts.{none_raised}
 use Rattle.epg_play.specs.Leaves.{status_for}
-use Rattle.epg_play.specs.Played.{HasReadCause as HasInputCause}
-use Rattle.epg_audit.specs.Audits.{AuditDid, HasAuditCause, IsOfScript, ScriptStops, desk_airings}
-use Rattle.epg_audit.specs.Checks.{AreTaken, Checks, Follows, GivesEnd, GivesNoMore, HasReadCause, IsOfCheck}
-use Rattle.epg_audit.specs.Finds.{IsMetBehind}
+use Rattle.epg_play.specs.Played.{IsItemStop}
+use Rattle.epg_audit.specs.Audits.{AuditDid, ScriptStops, desk_airings}
+use Rattle.epg_audit.specs.Checks.{AreTaken, Checks, Follows, GivesEnd, GivesNoMore}
 use Rattle.epg_audit.specs.Recorded.{BeginsWithAir, IsFaulty, passed_over}
 use Rattle.epg_audit.proofs.Faults.{cut_short, differs_at_end, past_limit, recorded}
 use Rattle.epg_audit.proofs.Pieces.{front_is, packets_parted, packets_taken}
@@ -81,67 +77,6 @@ pub other_mux : (desk new : DeskState) → StepAt false desk new ⊎ (new ≡ de
 other_mux desk new (inl s) = step_mux false desk new s
 other_mux desk new (inr same) = ap (λ (d : DeskState). d.mux) same
 
--- ---- statuses
-
-pub check_met : (status : Status) → IsOfCheck status → IsMetBehind status
-check_met (NotAir n rule) is = tt
-check_met (Short n) is = tt
-check_met (BadStream n) is = tt
-check_met (TooLong Recording) is = tt
-check_met (TooLong Input) is = absurd is
-check_met (TooLong (Feed f)) is = absurd is
-check_met (ReadFault Recording) is = tt
-check_met (ReadFault Input) is = absurd is
-check_met (ReadFault (Feed f)) is = absurd is
-check_met Memory is = tt
-check_met other is = absurd is
-
-pub check_said : (status : Status) → IsOfCheck status → CanBeSaid status
-check_said (Disagrees n kept found) is = absurd is
-check_said other is = tt
-
-pub check_caused : (input_before input_now before mid now : ℕ) (status : Status) → IsOfCheck status → before ≤ mid → HasReadCause mid now (Err status) → HasAuditCause {T = Unit {0}} input_before input_now before now (Err status)
-check_caused input_before input_now before mid now (ReadFault Recording) is le cause = Rose-from before mid now le cause
-check_caused input_before input_now before mid now (ReadFault Input) is le cause = absurd is
-check_caused input_before input_now before mid now (ReadFault (Feed f)) is le cause = tt
-check_caused input_before input_now before mid now other is le cause = tt
-
-pub script_met : (stop : PlayStop) → IsOfScript stop → IsMetBehind (status_for stop)
-script_met (Undescribed fault) is = absurd is
-script_met (Refused n) is = tt
-script_met (Differs n kept found) is = tt
-script_met (Read Overlong) is = tt
-script_met (Read Failed) is = tt
-script_met OnAir is = absurd is
-script_met NoMemory is = tt
-
-pub script_caused : (input_before input_mid input_now before now : ℕ) (stop : PlayStop) → input_before ≤ input_mid → HasInputCause {T = Unit {0}} input_mid input_now (Err stop)
-    → HasAuditCause {T = Unit {0}} input_before input_now before now (Err (status_for stop))
-script_caused input_before input_mid input_now before now (Undescribed fault) le cause = tt
-script_caused input_before input_mid input_now before now (Refused n) le cause = tt
-script_caused input_before input_mid input_now before now (Differs n kept found) le cause = tt
-script_caused input_before input_mid input_now before now (Read Overlong) le cause = tt
-script_caused input_before input_mid input_now before now (Read Failed) le cause = Rose-from input_before input_mid input_now le cause
-script_caused input_before input_mid input_now before now OnAir le cause = tt
-script_caused input_before input_mid input_now before now NoMemory le cause = tt
-
-pub item_of_script : (old new : DeskState) (stop : PlayStop) → ItemDid old new (Err stop) → IsOfScript stop
-item_of_script old new (Undescribed fault) did = did
-item_of_script old new (Refused n) did = tt
-item_of_script old new (Differs n kept found) did = tt
-item_of_script old new (Read s) did = tt
-item_of_script old new OnAir did = did
-item_of_script old new NoMemory did = tt
-
--- the desk is as it was, where the stop is no want of memory
-stop_same : (old new : DeskState) (stop : PlayStop) → ItemDid old new (Err stop) → (stop ≡ NoMemory) ⊎ (new ≡ old)
-stop_same old new (Undescribed fault) did = absurd did
-stop_same old new (Refused n) did = inr did
-stop_same old new (Differs n kept found) did = inr did
-stop_same old new (Read s) did = inr did
-stop_same old new OnAir did = absurd did
-stop_same old new NoMemory did = inl refl
-
 -- ---- what an audit does
 
 module _ {S F : Type 0} (nulls : Bool) (left : S → Option (List ℕ)) (gives : F → Option (List ℕ)) (first now : Reading S) (start mid new : PacketReading F) (before desk : DeskState) where
@@ -169,29 +104,25 @@ module _ {S F : Type 0} (nulls : Bool) (left : S → Option (List ℕ)) (gives :
   -- the script stops
   pub script_did : (old : DeskState) (c : Auditing) (passed : Option ℕ) (stop : PlayStop)
       → Follows old.mux.rate nulls gives start mid (desk_airings old) c passed → IsAtEnd c
-      → ItemDid old desk (Err stop) → Stops 0 left first now before desk (Err stop)
+      → desk ≡ old → IsItemStop stop → Stops 0 left first now before desk (Err stop)
       → Did (Err (status_for stop))
-  script_did old c passed stop f end did stops = by stop (stop_same old desk stop did) did stops
+  script_did old c passed stop f end same is stops = by stop is stops
     where
-      here : (s : PlayStop) → desk ≡ old → ItemDid old desk (Err s) → Stops 0 left first now before desk (Err s) → ScriptStops nulls left gives first now start before desk (status_for s)
-      here s same did stops = record {
+      here : (s : PlayStop) → IsItemStop s → Stops 0 left first now before desk (Err s) → ScriptStops nulls left gives first now start before desk (status_for s)
+      here s is stops = record {
         stop = s;
         is = refl;
-        of_script = item_of_script old desk s did;
+        of_script = is;
         stops = stops;
         behind = λ bytes told. subst (λ (d : DeskState). BeginsWithAir d.mux.rate nulls
             (desk_airings d) bytes) (sym same)
             (front_air old.mux.rate (desk_airings old) c passed bytes f end told);
       }
 
-      by : (s : PlayStop) → (s ≡ NoMemory) ⊎ (desk ≡ old) → ItemDid old desk (Err s) → Stops 0 left first now before desk (Err s) → Did (Err (status_for s))
-      by (Undescribed fault) is did stops = absurd did
-      by (Refused n) is did stops = inl (here (Refused n) did did stops)
-      by (Differs n kept found) is did stops = inl (here (Differs n kept found) did did stops)
-      by (Read Overlong) is did stops = inl (here (Read Overlong) did did stops)
-      by (Read Failed) is did stops = inl (here (Read Failed) did did stops)
-      by OnAir is did stops = absurd did
-      by NoMemory is did stops = tt
+      by : (s : PlayStop) → IsItemStop s → Stops 0 left first now before desk (Err s) → Did (Err (status_for s))
+      by NoMemory is stops = tt
+      by (Read Failed) is stops = inl (here (Read Failed) is stops)
+      by s is stops = inl (here s is stops)
 
   -- the recording is at fault in a cycle
   pub cycle_did : (airings : List AiredTables) (c : Auditing) (passed : Option ℕ)
@@ -235,11 +166,7 @@ module _ {S F : Type 0} (nulls : Bool) (left : S → Option (List ℕ)) (gives :
       by (TooLong Recording) is = past_limit rate nulls airings bytes f.packets t.0
           (stands_begins rate nulls airings (seen nulls f.packets) c f.is_of f.stands) t.2 is.1
           (omega (arith, is.0, f.number, f.within))
-      by (TooLong Input) is = is
-      by (TooLong (Feed f)) is = is
       by (ReadFault Recording) is = tt
-      by (ReadFault Input) is = is
-      by (ReadFault (Feed f)) is = is
       by other is = absurd is
 
   pub end_did : (c : Auditing) (passed : Option ℕ) (result : Result (Unit {0}) Status)

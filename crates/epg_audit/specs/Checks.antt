@@ -1,5 +1,5 @@
 -- How far an audit has come with a recording.
-use Rattle.std.specs.Prelude.{◌≡◌, ◌≤◌, ◌<◌, ℕ, Bool, false, List, [], ◌++◌, length, take, flat_map, Option, Some, Ok, Err, Result, OnOk, if◌then◌else◌, nat_lt}
+use Rattle.std.specs.Prelude.{◌≡◌, ◌≤◌, ◌<◌, ℕ, Bool, false, List, [], ◌++◌, length, take, flat_map, Option, Some, None, Ok, Err, Result, OnOk, if◌then◌else◌, nat_lt}
 use Rattle.si_causes.specs.Causes.{Rose}
 use Rattle.packet_reader.specs.declared.stop.PacketStop.{PacketStop}
 use Rattle.packet_reader.specs.declared.stop.PacketStop.TheVariants as stop
@@ -14,7 +14,7 @@ use Rattle.epg_report.specs.declared.status.Status.{Status}
 use Rattle.epg_report.specs.declared.status.Status.TheVariants.{BadStream, Memory, NotAir, ReadFault, Short, TooLong}
 use Rattle.epg_report.specs.declared.status.Origin.TheVariants.{Recording}
 use Rattle.epg_audit.specs.Recorded.{IsFaulty, is_passed, passed_over}
-use Rattle.air_audit.specs.CycleChecking.{Auditing, IsOf, StandsAt}
+use Rattle.air_audit.specs.CycleChecking.{Auditing, IsAtEnd, IsOf, StandsAt}
 use Rattle.air_audit.specs.TimedAirs.{seen}
 
 -- Of bytes these packets were taken, and the others are left.
@@ -45,6 +45,11 @@ Checks rate nulls left start now airings checker passed (Err Memory) = Unit {0}
 Checks rate nulls left start now airings checker passed (Err status) =
     (bytes : List ℕ) → bytes_left left start ≡ Some bytes → (others : List AiredTables)
     → CanBeSent others → IsFaulty rate nulls (airings ++ others) bytes status
+
+-- the recording may be read on, and the checker stands between two cycles
+pub record IsBetweenCycles {F : Type 0} (now : PacketReading F) (checker : Auditing) : Type 0 where
+  pub going : now.stop ≡ None
+  pub at_end : IsAtEnd checker
 
 -- the status of a recording that gives no further packet
 abbrev pub recording_status : {F : Type 0} → PacketReading F → PacketStop → Rule → Status

@@ -16,7 +16,7 @@ use Rattle.epg_report.specs.Asked.{AtPath, HasAskedFor}
 use Rattle.epg_audit.specs.Finds.{HasMetCause, IsAccepted, IsFound, IsMetByAudit}
 use Rattle.epg_audit.specs.Recorded.{IsFaulty, IsRecordedAir, rate_in, script_airings}
 
--- What a run of `audit` leaves with each status. With Done the report is the one line of the air, and with a fault its line alone.
+-- What a run of `audit` leaves with each status. With Done the report is the one line of the air, and with a fault only its line.
 abbrev pub LeavesAudit : List ℕ → Bool → Files → OpenerAsked → List ℕ → Option (List ℕ) → ReportTaken → Status → Type 0
 LeavesAudit path nulls files opener text left report Done = (count : AirCount) × IsAccepted path nulls files (script_in text) count × Appends report.old report.new (air_line count)
 LeavesAudit path nulls files opener text left report (WriteFault Report) =
@@ -66,7 +66,7 @@ pub record AuditRun (path : List ℕ) (nulls : Bool) (opener : OpenerAsked) (inp
   pub report_cause : status ≡ WriteFault Report → Rose report.faults_old report.faults_new
 
 -- So a call ran with this opener, this input and this report: of each what tells what it has and its faults, and how it was before and
--- behind.
+-- after.
 abbrev pub AuditRan : {O S R : Type 0} → List ℕ → Bool → (O → Option Files) → (O → Option (List (List ℕ))) → (O → ℕ) → (O → ℕ) → O → O
     → (S → Option (List ℕ)) → (S → ℕ) → S → S → (R → Option (List ℕ)) → (R → ℕ) → R → R → Status → Type 0
 AuditRan path nulls files tried open_faults file_faults opener opener_then left read_faults input input_then taken report_faults report report_then status =

@@ -65,21 +65,21 @@ pub record BeginsWithAir (rate : Option ℕ) (nulls : Bool) (airings : List Aire
   pub within : n ≤ length (whole_packets bytes)
   pub air : AreAirAt rate nulls airings (seen nulls (take n (whole_packets bytes)))
 
--- A recording ends behind n pieces, which are a prefix of an air and no whole one.
+-- A recording ends after n pieces, which are a prefix of an air and no whole one.
 pub record IsShort (rate : Option ℕ) (nulls : Bool) (airings : List AiredTables) (bytes : List ℕ)
     (n : ℕ) : Type 0 where
   pub whole : length bytes ≡ 188 * n
   pub begins : BeginAirAt rate nulls airings (seen nulls (whole_packets bytes))
   pub no_air : ¬ (AreAirAt rate nulls airings (seen nulls (whole_packets bytes)))
 
--- A recording goes on behind n pieces, which are a prefix of an air, with less than a packet.
+-- A recording goes on after n pieces, which are a prefix of an air, with less than a packet.
 pub record IsCut (rate : Option ℕ) (nulls : Bool) (airings : List AiredTables) (bytes : List ℕ)
     (n : ℕ) : Type 0 where
   pub more : 188 * n < length bytes
   pub less : length bytes < 188 * n + 188
   pub begins : BeginAirAt rate nulls airings (seen nulls (whole_packets bytes))
 
--- A recording goes on behind as many pieces as it may have, which are a prefix of an air.
+-- A recording goes on after as many pieces as it may have, which are a prefix of an air.
 pub record IsPastLimit (rate : Option ℕ) (nulls : Bool) (airings : List AiredTables)
     (bytes : List ℕ) : Type 0 where
   pub more : 188 * packet_limit < length bytes

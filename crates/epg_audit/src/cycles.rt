@@ -8,13 +8,12 @@ ghost use Rattle.packet_reader.specs.Reading.{PacketReading, bytes_left};
 ghost use Rattle.ts_packets.specs.WholePackets.{whole_packets};
 ghost use Rattle.version_book.specs.Airings.{AiredTables};
 ghost use Rattle.air_audit.specs.CycleChecking.{IsAtEnd, IsOf, StandsAt, form_of};
-ghost use Rattle.journal_air.specs.Air.{mux_form};
 ghost use Rattle.journal_air.specs.OnAir.{airing_on};
 ghost use Rattle.epg_report.specs.Texts.{CanBeSaid};
 ghost use Rattle.epg_play.specs.Items.{Stands};
-ghost use Rattle.epg_audit.specs.Audits.{DeskAudited, HasAuditCause, IsBegun};
+ghost use Rattle.epg_audit.specs.Audits.{CanAudit, DeskAudited, HasAuditCause};
 ghost use Rattle.epg_audit.specs.Finds.{IsMetBehind};
-ghost use Rattle.epg_audit.specs.Checks.{Checks, Follows, HasReadCause, IsOfCheck};
+ghost use Rattle.epg_audit.specs.Checks.{Checks, Follows, HasReadCause, IsBetweenCycles, IsOfCheck};
 ghost use Rattle.epg_audit.specs.Recorded.{passed_over};
 
 use crate::recording::{check_cycle, check_end};
@@ -63,15 +62,13 @@ fn check_on_air<F: Source>(
     passed: &mut Option<u64>,
 ) -> Result<(), Status>
     requires lean { IsLean desk.now }
-    requires going { packets.old.stop ≡ None }
-    requires at_end { IsAtEnd checker.old }
+    requires between { IsBetweenCycles packets.old checker.old }
     ensures checks { (state : DeskState) → Stands state desk.now
         → (rate : Option ℕ) (nulls : Bool) (start : PacketReading F) (past : List AiredTables)
         → Follows rate nulls F.left start packets.old past checker.old passed.old
         → Checks rate nulls F.left start packets.new
         (past ++ airing_on state (form_of checker.old) ∷ []) checker.new passed.new result }
-    ensures at_end { OnOk result (IsAtEnd checker.new) }
-    ensures going { OnOk result (packets.new.stop ≡ None) }
+    ensures between { OnOk result (IsBetweenCycles packets.new checker.new) }
     ensures form { form_of checker.new ≡ form_of checker.old }
     ensures known { IfErr result IsOfCheck }
     ensures cause { HasReadCause (F.faults packets.old.source) (F.faults packets.new.source) result }
@@ -83,8 +80,8 @@ fn check_on_air<F: Source>(
     check_cycle(packets, checker, passed)
 }
 
-/// Does the commands that are left, up to the first line that is none, or that keeps another outcome than the desk's; behind each swap
-/// the packets of its cycle are read and checked before the next line is read, and behind the last command none is to come. Null packets
+/// Does the commands that are left, up to the first line that is none, or that keeps another outcome than the desk's. After each swap
+/// the packets of its cycle are read and checked before the next line is read. After the last command none is to come. Null packets
 /// may stand anywhere where they are counted.
 pub(crate) fn audit_rest<S: Source, F: Source>(
     alloc: Global,
@@ -95,14 +92,7 @@ pub(crate) fn audit_rest<S: Source, F: Source>(
     passed: &mut Option<u64>,
 ) -> Result<(), Status>
     requires going { lines.old.stop ≡ None }
-    requires unread { packets.old.stop ≡ None }
-    requires first { packets.old.number ≡ 0 }
-    requires stands { StandsAt [] [] checker.old }
-    requires kind { (nulls : Bool) → passed.old ≡ passed_over nulls []
-        → IsOf desk.old.desk.mux.rate nulls checker.old }
-    requires at_end { IsAtEnd checker.old }
-    requires form { form_of checker.old ≡ mux_form desk.old.desk.mux }
-    requires begun { IsBegun desk.old }
+    requires ready { CanAudit packets.old checker.old passed.old desk.old }
     ensures did { (nulls : Bool) → passed.old ≡ passed_over nulls []
         → DeskAudited nulls S.left F.left lines.old lines.new packets.old desk.old desk.new result }
     ensures counted { (nulls : Bool) (bytes : List ℕ) → passed.old ≡ passed_over nulls []

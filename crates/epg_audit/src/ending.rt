@@ -56,7 +56,7 @@ fn report_of(alloc: Global, audited: Result<AirCount, Status>) -> Result<Vec<u8>
     Ok(text)
 }
 
-/// Reports what was audited, and says how the run ends. A report that fails changes the status of a run without a fault alone.
+/// Reports what was audited, and says how the run ends. A report that fails changes only the status of a run without a fault.
 pub(crate) fn finish<R: Sink>(
     alloc: Global,
     audited: Result<AirCount, Status>,

@@ -5,8 +5,8 @@ ghost use Rattle.packet_reader.specs.Recordings.{packet_limit};
 ghost use Rattle.version_book.specs.Airings.{AiredTables};
 ghost use Rattle.air_audit.specs.TimedAirs.{seen};
 ghost use Rattle.air_audit.specs.CycleAirs.{BeginAirAt};
-ghost use Rattle.air_audit.specs.CycleChecking.{Auditing, IsAtEnd, IsOf, StandsAt, form_of, rule_at};
-ghost use Rattle.epg_audit.specs.Checks.{Checks, Ends, Follows, HasReadCause, IsOfCheck, recording_status};
+ghost use Rattle.air_audit.specs.CycleChecking.{Auditing, IsOf, StandsAt, form_of, rule_at};
+ghost use Rattle.epg_audit.specs.Checks.{Checks, Ends, Follows, HasReadCause, IsBetweenCycles, IsOfCheck, recording_status};
 ghost use Rattle.epg_audit.specs.Recorded.{is_passed, passed_over};
 
 use air_audit::{CycleChecker, is_null};
@@ -93,8 +93,7 @@ pub(crate) fn check_cycle<F: Source>(
         (airings : List AiredTables)
         → Follows rate nulls F.left start packets.old airings checker.old passed.old
         → Checks rate nulls F.left start packets.new airings checker.new passed.new result }
-    ensures at_end { OnOk result (IsAtEnd checker.new) }
-    ensures going { OnOk result (packets.new.stop ≡ None) }
+    ensures between { OnOk result (IsBetweenCycles packets.new checker.new) }
     ensures form { form_of checker.new ≡ form_of checker.old }
     ensures known { IfErr result IsOfCheck }
     ensures cause { HasReadCause (F.faults packets.old.source) (F.faults packets.new.source) result }

@@ -110,8 +110,8 @@ fn audit<O: Opener, S: Source>(
     audited
 }
 
-/// Holds a recording against the air of a journal: reads the script of the input as [`epg_play::run_play`] does, and behind each swap
-/// the packets of its cycle from the file of this path, which is opened behind the description of the multiplex. Whoever made the
+/// Holds a recording against the air of a journal: reads the script of the input as [`epg_play::run_play`] does, and after each swap
+/// the packets of its cycle from the file of this path, which is opened after the description of the multiplex. Whoever made the
 /// recording, it is an air of the journal exactly where the run ends with Done, faults of the outside and want of memory aside. The
 /// report is one line: `air`, how many packets it has and how many swaps, or what is at fault (ISO/IEC 13818-1, 2.4.3 and 2.4.4;
 /// EN 300 468, 5.1). With `nulls` null packets may stand anywhere in the recording (ISO/IEC 13818-1, 2.4.3.3): they are passed over, and

@@ -1,6 +1,6 @@
 -- What is begun from the file of a checkpoint.
 use Rattle.std.proofs.Common.{◌≡◌, ℕ, List, ap, ◌∙◌}
-use Rattle.std.specs.Prelude.{Option, Some, Ok, Err, Result, IfErr}
+use Rattle.std.specs.Prelude.{Option, Some, Ok, Err, Result}
 use Rattle.std.proofs.KnownBytes.{prepend_known-nil}
 use Rattle.si_causes.specs.Reading.{Reading, fresh_to, text_left}
 use Rattle.si_causes.specs.Text.{lines_left}
@@ -14,9 +14,9 @@ use Rattle.desk_checkpoint.specs.declared.start.CheckStop.TheVariants.{Line, Rea
 use Rattle.desk_checkpoint.specs.Checkpoints.{Checkpoint}
 use Rattle.desk_checkpoint.specs.Starts.{GivesStart}
 use Rattle.epg_report.specs.declared.status.Status.{Status}
-use Rattle.epg_report.specs.declared.status.Status.TheVariants.{BadCheckpoint, Memory, OpenFault, ReadFault, TooLong as PastLimit}
-use Rattle.epg_report.specs.declared.status.Origin.TheVariants.{Input, Feed, Recording}
-use Rattle.epg_play.specs.Beginning.{BeginsAt, BeginsWith, HasOpenCause, IsNotBegun, IsRefused, check_status}
+use Rattle.epg_report.specs.declared.status.Status.TheVariants.{BadCheckpoint, Memory, ReadFault, TooLong as PastLimit}
+use Rattle.epg_report.specs.declared.status.Origin.TheVariants.{Recording}
+use Rattle.epg_play.specs.Beginning.{BeginsAt, BeginsWith, check_status}
 use Rattle.epg_play.specs.Checkpointed.{checkpoint_limit, checkpoint_of}
 
 -- ---- a reader at the front of a file
@@ -42,30 +42,8 @@ refused_with found NoMemory gives = tt
 
 pub begins_at : (path : List ℕ) (files : Files) (mux : Mux) (bytes : List ℕ) (result : Result Start Status) → file_at path files ≡ Some bytes → BeginsWith (checkpoint_of mux bytes) result → BeginsAt path files mux result
 begins_at path files mux bytes (Ok start) file begins = record { bytes = bytes; file = file; is = begins }
-begins_at path files mux bytes (Err (OpenFault n)) file begins = absurd begins
 begins_at path files mux bytes (Err (BadCheckpoint n)) file begins = record { bytes = bytes; file = file; is = begins }
 begins_at path files mux bytes (Err (PastLimit Recording)) file begins = record { bytes = bytes; file = file; is = begins }
-begins_at path files mux bytes (Err (PastLimit Input)) file begins = absurd begins
-begins_at path files mux bytes (Err (PastLimit (Feed f))) file begins = absurd begins
 begins_at path files mux bytes (Err (ReadFault Recording)) file begins = tt
-begins_at path files mux bytes (Err (ReadFault Input)) file begins = absurd begins
-begins_at path files mux bytes (Err (ReadFault (Feed f))) file begins = absurd begins
 begins_at path files mux bytes (Err Memory) file begins = tt
 begins_at path files mux bytes (Err other) file begins = absurd begins
-
--- a file that was opened is no file that was not
-pub known_at : (result : Result Start Status) → IfErr result IsRefused → IfErr result IsNotBegun
-known_at (Ok start) known = tt
-known_at (Err (OpenFault n)) known = absurd known
-known_at (Err (PastLimit Recording)) known = tt
-known_at (Err (PastLimit Input)) known = absurd known
-known_at (Err (PastLimit (Feed f))) known = absurd known
-known_at (Err (ReadFault Recording)) known = tt
-known_at (Err (ReadFault Input)) known = absurd known
-known_at (Err (ReadFault (Feed f))) known = absurd known
-known_at (Err other) known = known
-
-pub opened_at : (before now : ℕ) (result : Result Start Status) → IfErr result IsRefused → HasOpenCause before now result
-opened_at before now (Ok start) known = tt
-opened_at before now (Err (OpenFault n)) known = absurd known
-opened_at before now (Err other) known = tt

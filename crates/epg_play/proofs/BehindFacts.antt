@@ -3,7 +3,7 @@ use Rattle.std.proofs.Common.{◌≡◌, ℕ, Bool, true, false, List, [], ◌�
 use Rattle.std.specs.Prelude.{Option, Some, None, Ok, Err, Result, not}
 use Rattle.std.specs.Io.KnownBytes.{Appends}
 use Rattle.si_causes.specs.Causes.{AppendsFront}
-use Rattle.si_causes.specs.declared.stop.ReadStop.TheVariants.{Failed, TooLong as Overlong}
+use Rattle.si_causes.specs.declared.stop.ReadStop.TheVariants.{Failed}
 use Rattle.input_lines.specs.Ahead.{Ahead}
 use Rattle.version_book.specs.Airings.{AiredTables}
 use Rattle.air_model.specs.Air.{Aired, airings_of}
@@ -23,7 +23,7 @@ use Rattle.desk_checkpoint.specs.Text.{start_text}
 use Rattle.journal_air.specs.OnAir.{HasAired, HasAiredFront}
 use Rattle.journal_air.specs.Tallied.{HasTallied}
 use Rattle.epg_report.specs.declared.status.Status.{Status}
-use Rattle.epg_report.specs.declared.status.Status.TheVariants.{Done, BadScript, Disagrees, ReadFault, TooLong as PastLimit, WriteFault}
+use Rattle.epg_report.specs.declared.status.Status.TheVariants.{Done, ReadFault, WriteFault}
 use Rattle.epg_report.specs.declared.status.Origin.TheVariants.{Input}
 use Rattle.epg_report.specs.declared.status.Outlet.TheVariants.{Air}
 use Rattle.epg_report.specs.Ends.{ReportEnds, or_report}
@@ -31,25 +31,26 @@ use Rattle.epg_report.specs.Rates.{rate_line}
 use Rattle.epg_report.specs.Texts.{fault_lines}
 use Rattle.epg_report.specs.Told.{ReportTaken, Reported}
 use Rattle.epg_play.specs.declared.stop.PlayStop.{PlayStop}
-use Rattle.epg_play.specs.declared.stop.PlayStop.TheVariants.{NoMux as Undescribed, NoCommand as Refused, Disagrees as Differs, Read, Air as OnAir, Memory as NoMemory}
-use Rattle.epg_play.specs.Leaves.{status_for}
+use Rattle.epg_play.specs.declared.stop.PlayStop.TheVariants.{NoMux as Undescribed, Read, Air as OnAir, Memory as NoMemory}
+use Rattle.epg_play.specs.Leaves.{met_by, script_status, status_for}
 use Rattle.epg_play.specs.Played.{AiredTo, DeskDid, TalliedTo, course, desk_after}
-use Rattle.epg_play.specs.Script.{Stop, Ended, NoCommand, Disagreed, TooLong, Unread}
+use Rattle.epg_play.specs.Script.{Stop}
 use Rattle.epg_play.proofs.TypedFacts.{AreTypedCommands, first-typed, played_typed}
 use Rattle.epg_play.specs.declared.played.Course.{Course}
 use Rattle.epg_play.specs.declared.played.Played.{Played}
 use Rattle.epg_play.specs.Checkpointed.{HasRun, IsCheckpoint}
 use Rattle.journal_model.specs.Raising.{all_raised}
 use Rattle.epg_play.specs.Items.{IsAt}
-use Rattle.epg_play.specs.Courses.{CourseBehind, EndsAs, Finished, HandedBy, IsCourseText, made_text, met_by}
+use Rattle.epg_play.specs.Courses.{CourseBehind, EndsAs, Finished, HandedBy, IsCourseText, made_text}
 use Rattle.epg_play.specs.Behind.{CutOn, IsReport, LeavesBehind, StoppedOn, WentOn, before_fault, new_text, played_behind}
+use Rattle.epg_play.proofs.CourseFacts.{ended_is}
 use Rattle.epg_play.proofs.SentBehind.{whole_sent_behind}
 use Rattle.epg_play.proofs.GoingOn.{IsBase, air_on, course_same, cut_on, desk_with, is_air_on, legal_on, made_on, made_same, read_on, run_on, text_on, within_on}
 
 -- ---- reports
 
 -- the report of a fault is the text and the line of the fault, whether or not it was taken whole
-reported_fault : (met : Status) (text : List ℕ) (report : ReportTaken) (status : Status) → or_report met ≡ met → ReportEnds met text report status → (status ≡ met) × Reported report (text ++ fault_lines met)
+pub reported_fault : (met : Status) (text : List ℕ) (report : ReportTaken) (status : Status) → or_report met ≡ met → ReportEnds met text report status → (status ≡ met) × Reported report (text ++ fault_lines met)
 reported_fault met text report status own (inl (took, is)) = (is, inl took)
 reported_fault met text report status own (inr (rose, front, is)) = (is ∙ own, inr (rose, front))
 
@@ -60,22 +61,12 @@ ended_text true behind = []
 
 no_text : (fold : Bool) (behind : Course) (stop : PlayStop) (text : List ℕ) → IsCourseText fold behind (status_for stop) text → text ≡ ended_text fold behind
 no_text false behind stop text is = is
-no_text true behind (Undescribed fault) text is = is
-no_text true behind (Refused n) text is = is
-no_text true behind (Differs n kept found) text is = is
-no_text true behind (Read Overlong) text is = is
 no_text true behind (Read Failed) text is = is
-no_text true behind OnAir text is = is
-no_text true behind NoMemory text is = is
+no_text true behind other text is = is
 
 own_status : (stop : PlayStop) → or_report (status_for stop) ≡ status_for stop
-own_status (Undescribed fault) = refl
-own_status (Refused n) = refl
-own_status (Differs n kept found) = refl
-own_status (Read Overlong) = refl
 own_status (Read Failed) = refl
-own_status OnAir = refl
-own_status NoMemory = refl
+own_status other = refl
 
 module _ (fold : Bool) (mux : Mux) (shift : ℕ) (journal short : List Entry) (earlier : List Aired) (base : IsBase mux shift journal short) (run : HasRun mux journal earlier)
     (took report : ReportTaken) (lines : Ahead) (behind : Course) (end : DeskState) where
@@ -135,7 +126,7 @@ module _ (fold : Bool) (mux : Mux) (shift : ℕ) (journal short : List Entry) (e
   airings_are : airings_of earlier ≡ airings mux journal
   airings_are = cycle_airings mux.rate (airings mux journal) earlier run.is_air
 
-  went_on : IsOn → (rest.1 ≡ Ended) × (end ≡ desk_after (desk_with mux short) rest.0) → HasAired earlier end behind.player took.old took.new
+  went_on : IsOn → (Done ≡ script_status rest.1) × (end ≡ desk_after (desk_with mux short) rest.0) → HasAired earlier end behind.player took.old took.new
       → HasTallied end behind.player → (text : List ℕ) → IsCourseText fold behind Done text → HandedBy fold Done (Some behind) → WentOn fold mux journal earlier took report rest text
   went_on on (ended, did) (cycles, sent, bytes) told text text_is handed =
       let whole = journal ++ journal_after mux journal rest.0 in
@@ -144,7 +135,7 @@ module _ (fold : Bool) (mux : Mux) (shift : ℕ) (journal short : List Entry) (e
       let is = is_air_on mux shift journal short base earlier cycles end behind.player rest.0 airings_are did sent in
       let made = made_on mux shift journal short base earlier cycles end behind.player rest.0 did sent in
       record {
-        ended = ended;
+        ended = ended_is rest.1 ended;
         legal = legal;
         air_is = record {
           cycles = cycles;
@@ -165,9 +156,9 @@ module _ (fold : Bool) (mux : Mux) (shift : ℕ) (journal short : List Entry) (e
           (subst (λ (n : ℕ). IsCheckpoint mux (journal ++ more rest.0) (earlier ++ cycles) (start_text n end behind.player)) (sym on.shift_is)
           (text_on mux shift journal short base end behind.player rest.0 (earlier ++ cycles) did sent.player_of.rate sent.at_end h))
 
-  stopped : IsOn → (stop : Stop) (status : Status) → (rest.1 ≡ stop) × (end ≡ desk_after (desk_with mux short) rest.0) → HasAired earlier end behind.player took.old took.new
-      → HasTallied end behind.player → Reported report (ended_text fold behind ++ fault_lines status) → StoppedOn fold mux journal earlier took report rest stop status
-  stopped on stop status (is, did) aired told reported =
+  stopped : IsOn → (status : Status) → (status ≡ script_status rest.1) × (end ≡ desk_after (desk_with mux short) rest.0) → HasAired earlier end behind.player took.old took.new
+      → HasTallied end behind.player → Reported report (ended_text fold behind ++ fault_lines status) → StoppedOn fold mux journal earlier took report rest status
+  stopped on status (is, did) aired told reported =
       let air = air_on mux shift journal short base earlier end behind.player took rest.0 airings_are did aired (read_on mux shift journal short base earlier rest.0 run typed_all) in
       record {
         stopped = is;
@@ -193,12 +184,10 @@ module _ (fold : Bool) (mux : Mux) (shift : ℕ) (journal short : List Entry) (e
       → TalliedTo {T = Unit {0}} end behind.player (Err stop)
       → Reported report (ended_text fold behind ++ fault_lines (status_for stop)) → LeavesBehind fold mux journal earlier took report lines (status_for stop)
   by_stop on (Undescribed fault) did aired told reported = absurd did
-  by_stop on (Refused n) did aired told reported = stopped on (NoCommand n) (BadScript n) did aired told reported
-  by_stop on (Differs n kept found) did aired told reported = stopped on (Disagreed n kept found) (Disagrees n kept found) did aired told reported
-  by_stop on (Read Overlong) did aired told reported = stopped on TooLong (PastLimit Input) did aired told reported
-  by_stop on (Read Failed) did aired told reported = stopped on Unread (ReadFault Input) did aired told reported
   by_stop on OnAir did aired told reported = cut on did.0 did.1 aired told reported
   by_stop on NoMemory did aired told reported = tt
+  by_stop on (Read Failed) did aired told reported = stopped on (ReadFault Input) did aired told reported
+  by_stop on stop did aired told reported = stopped on (status_for stop) did aired told reported
 
   -- how it ends, where the report took the text of the course
   ends : IsOn → (stop : Result (Unit {0}) PlayStop) (status : Status) → DeskDid rest (desk_with mux short) end stop → AiredTo earlier end behind.player took.old took.new stop

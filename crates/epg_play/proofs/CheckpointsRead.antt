@@ -21,28 +21,20 @@ use Rattle.epg_play.proofs.ClockKept.{clock_written}
 
 -- ---- what is kept, at a bit rate or without one
 
-module _ (xs : List Aired) (keys : List KeyVersion) (pids : List PidCounter) (clock : Clock) where
-  stand : (rate : Option ℕ) → AreKeptAt rate xs keys pids clock → BookStandsFor (airings_of xs) (given_entries keys)
-  stand None kept = kept.versions
-  stand (Some rate) kept = kept.versions
+abbrev AreAllKept : Option ℕ → List Aired → List KeyVersion → List PidCounter → Type 0
+AreAllKept rate xs keys pids =
+    BookStandsFor (airings_of xs) (given_entries keys) × AreCountersOf (map bytes_of_packet (air xs)) pids × IsAirAt rate (airings_of xs) xs × HasNoNullAt rate (air xs)
 
-  count : (rate : Option ℕ) → AreKeptAt rate xs keys pids clock → AreCountersOf (map bytes_of_packet (air xs)) pids
-  count None kept = kept.counters
-  count (Some rate) kept = kept.counters
-
-  is_air : (rate : Option ℕ) → AreKeptAt rate xs keys pids clock → IsAirAt rate (airings_of xs) xs
-  is_air None kept = kept.is_air
-  is_air (Some rate) kept = timed_airs_are_airs rate xs kept.timed kept.can
-
-  no_null : (rate : Option ℕ) → AreKeptAt rate xs keys pids clock → HasNoNullAt rate (air xs)
-  no_null None kept = kept.no_null
-  no_null (Some rate) kept = tt
+all_kept : (rate : Option ℕ) (xs : List Aired) (keys : List KeyVersion) (pids : List PidCounter) (clock : Clock) → AreKeptAt rate xs keys pids clock → AreAllKept rate xs keys pids
+all_kept None xs keys pids clock kept = (kept.versions, kept.counters, kept.is_air, kept.no_null)
+all_kept (Some rate) xs keys pids clock kept = (kept.versions, kept.counters, timed_airs_are_airs rate xs kept.timed kept.can, tt)
 
 pub checkpoints_read : CheckpointsAreRead
 checkpoints_read mux journal xs keys pids clock behind tail sound can same handed short =
     let typed = accepted_typed journal can.typed in
-    let stands = subst (λ (past : List AiredTables). BookStandsFor past (given_entries keys)) same (stand xs keys pids clock mux.rate handed.kept) in
+    let kept = all_kept mux.rate xs keys pids clock handed.kept in
+    let stands = subst (λ (past : List AiredTables). BookStandsFor past (given_entries keys)) same kept.0 in
     checkpoints_back mux journal (given_entries keys) pids clock can
     (keys_written mux journal keys sound typed can.legal stands handed.ordered handed.bytes)
-    (counters_written mux.rate (airings_of xs) xs pids (is_air xs keys pids clock mux.rate handed.kept) (no_null xs keys pids clock mux.rate handed.kept) (count xs keys pids clock mux.rate handed.kept) handed.ascend handed.fit)
+    (counters_written mux.rate (airings_of xs) xs pids kept.2 kept.3 kept.1 handed.ascend handed.fit)
     (clock_written mux.rate xs keys pids clock sound.sound.rate handed.kept short) behind tail

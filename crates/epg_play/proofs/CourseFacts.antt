@@ -1,8 +1,7 @@
 -- The items of a script, one after another, and what is played of them.
-use Rattle.std.proofs.Common.{◌≡◌, ◌≤◌, ℕ, Bool, true, false, List, [], ◌∷◌, ◌++◌, length, take, refl, sym, ap, ◌∙◌, subst, append-nil, append_assoc}
+use Rattle.std.proofs.Common.{◌≡◌, ℕ, Bool, true, false, List, [], ◌∷◌, ◌++◌, length, take, refl, sym, ap, ◌∙◌, subst, append-nil, append_assoc}
 use Rattle.std.specs.Prelude.{Option, Some, None, Ok, Err, is_some}
 use Rattle.std.proofs.Math.Seq.{take-append_seam}
-use Rattle.si_causes.proofs.CauseFacts.{Rose-from}
 use Rattle.si_causes.specs.Reading.{Reading, text_left}
 use Rattle.si_causes.specs.declared.stop.ReadStop.TheVariants.{Failed, TooLong as Overlong}
 use Rattle.input_lines.proofs.Steps.{handed_none, handed_more, whole_more}
@@ -17,24 +16,31 @@ use Rattle.journal_model.specs.declared.step.Outcome.{Outcome}
 use Rattle.journal_model.specs.declared.step.Entry.{Entry}
 use Rattle.desk_core.specs.Journal.{journal_after, entry_after, outcome_of}
 use Rattle.journal_model.specs.Steps.{Command}
+use Rattle.desk_core.specs.declared.lean.LeanDesk.{LeanDesk}
 use Rattle.desk_core.specs.Desks.{DeskState}
+use Rattle.desk_core.specs.Lean.{StandsFor, with_entry}
 use Rattle.desk_core.proofs.JournalFacts.{journal_more}
 use Rattle.script_lines.specs.declared.script.ScriptItem.{ScriptItem}
 use Rattle.script_lines.specs.declared.script.ScriptItem.TheVariants.{Step as step, Kept}
 use Rattle.script_lines.specs.Script.{asked_by, first_script_item, items_ahead, kept_first}
 use Rattle.script_lines.proofs.ItemsAhead.{items_step, items_kept, items_stop}
 use Rattle.journal_air.specs.OnAir.{and_step}
+use Rattle.epg_play.specs.declared.desk.ScriptDesk.{ScriptDesk}
 use Rattle.epg_play.specs.declared.stop.PlayStop.{PlayStop}
-use Rattle.journal_air.specs.OnAir.{HasAired, AiredTo as OnAirTo, HasAirCause as HasSendCause}
 use Rattle.journal_air.specs.declared.send.SendStop.{SendStop}
 use Rattle.journal_air.specs.declared.send.SendStop.TheVariants as send
-use Rattle.cycle_player.specs.Sending.{Sending}
-use Rattle.epg_play.specs.declared.stop.PlayStop.TheVariants.{NoMux, NoCommand as Refused, Disagrees, Read, Air, Memory}
+use Rattle.epg_play.specs.declared.stop.PlayStop.TheVariants.{Disagrees}
+use Rattle.epg_report.specs.declared.status.Status.TheVariants.{Done}
+use Rattle.epg_play.specs.Leaves.{script_status}
 use Rattle.epg_play.specs.Script.{Stop, Ended, NoCommand, Disagreed, TooLong, Unread, commands_of, difference, first_difference, first_of, stop_of, up_to}
-use Rattle.epg_play.specs.Played.{AiredTo, HasAirCause, HasReadCause, IsDifference, IsItemStop, IsStopBehind, PlayedWhole, RestDid, RestTaken, course_of, desk_after, late_difference, played_raised, read_stop, send_stop, unless_late}
-use Rattle.air_model.specs.Air.{Aired}
+use Rattle.epg_play.specs.Played.{IsDifference, PlayedWhole, RestDid, RestTaken, course_of, desk_after, late_difference, played_raised, read_stop, send_stop, unless_late}
 use Rattle.journal_model.specs.Raising.{all_raised, raised}
-use Rattle.epg_play.specs.Items.{AreDone, ItemDid, Stops, Went, course_at}
+use Rattle.epg_play.specs.Items.{AreDone, IsAt, Stands, Stops, Went, course_at}
+
+-- a script with the status Done is whole
+pub ended_is : (stop : Stop) → Done ≡ script_status stop → stop ≡ Ended
+ended_is Ended e = refl
+ended_is other e = cc e
 
 -- commands and a stop
 abbrev pub Rest : Type 0
@@ -183,9 +189,9 @@ module _ (shift : ℕ) where
       let t = w.told text told in
       done_last before desk made (ahead old text) (ahead now t.0) w.done stop t.2 (stops t.0 t.1)
 
-  -- the stop and the desk
-  stopped_did : (all : Rest) (done : List Command) (stop : Stop) (before desk : DeskState) → all ≡ (done, stop) → desk ≡ desk_after before done → (all.1 ≡ stop) × (desk ≡ desk_after before all.0)
-  stopped_did all done stop before desk e d = (ap (λ (p : Rest). p.1) e, d ∙ ap (desk_after before) (sym (ap (λ (p : Rest). p.0) e)))
+  -- the status and the desk
+  stopped_did : (all : Rest) (done : List Command) (stop : Stop) (before desk : DeskState) → all ≡ (done, stop) → desk ≡ desk_after before done → (script_status stop ≡ script_status all.1) × (desk ≡ desk_after before all.0)
+  stopped_did all done stop before desk e d = (ap (λ (p : Rest). script_status p.1) (sym e), d ∙ ap (desk_after before) (sym (ap (λ (p : Rest). p.0) e)))
 
   pub ended : {S : Type 0} (left : S → Known) (old now new : Reading S) (before desk : DeskState) (after : Bool) (made : Option Outcome) → after ≡ is_some made → Went shift left old now before desk made
       → ((text : List ℕ) → text_left left now ≡ Some text → GivesNext left (first_script_item after) now new text (Ok None)) → (text : List ℕ) → text_left left old ≡ Some text
@@ -203,8 +209,7 @@ module _ (shift : ℕ) where
   read_stopped left old now new before desk after made (edits.Read Overlong) e w gives text told =
       stopped_did _ w.done TooLong before desk
       (told_stop left old now before desk made TooLong w (λ rest is. stop_ahead desk made (ahead now rest) reading.TooLong (ap (λ b. first_script_item b (ahead now rest)) (sym e) ∙ gives rest is)) text told) w.did
-  read_stopped left old now new before desk after made (edits.Read Failed) e w gives text told = tt
-  read_stopped left old now new before desk after made edits.Memory e w gives text told = tt
+  read_stopped left old now new before desk after made other e w gives text told = tt
 
   differed : {S : Type 0} (left : S → Known) (old now new : Reading S) (before desk : DeskState) (made : Option Outcome) (n m : ℕ) (kept asked found : Outcome) → Went shift left old now before desk made
       → ItemRead left now new (is_some made) (Kept n kept) → late_difference made (Some (n, kept)) ≡ Some (Disagreed m asked found) → (text : List ℕ) → text_left left old ≡ Some text
@@ -229,26 +234,11 @@ module _ (shift : ℕ) where
       let t = w.told text told in
       (length w.done, w.did ∙ ap (desk_after before) (sym (front_of (course_at shift before None (ahead old text)) (course_at shift desk made (ahead now t.0)) w.done t.2)))
 
-  -- what is on air at a desk that is as it was
-  pub stopped_aired : (earlier : List Aired) (old desk : DeskState) (player : Sending) (before now : Option (List ℕ)) (stop : PlayStop) → ItemDid old desk (Err stop) → HasAired earlier old player before now
-      → AiredTo {T = Unit {0}} earlier desk player before now (Err stop)
-  stopped_aired earlier old desk player before now (NoMux fault) did has = absurd did
-  stopped_aired earlier old desk player before now (Refused n) did has = subst (λ (d : DeskState). HasAired earlier d player before now) (sym did) has
-  stopped_aired earlier old desk player before now (Disagrees n kept found) did has = subst (λ (d : DeskState). HasAired earlier d player before now) (sym did) has
-  stopped_aired earlier old desk player before now (Read stop) did has = subst (λ (d : DeskState). HasAired earlier d player before now) (sym did) has
-  stopped_aired earlier old desk player before now Air did has = absurd did
-  stopped_aired earlier old desk player before now Memory did has = tt
-
   -- the cycle of a swap was not sent whole
   pub cut_stop : {S : Type 0} (left : S → Known) (old now : Reading S) (before desk : DeskState) (made : Option Outcome) (stop : SendStop) → Went shift left old now before desk made
       → Stops shift left old now before desk (Err (send_stop stop))
   cut_stop left old now before desk made send.Air w = (λ text told. cut_at left old now before desk made w text told, tt)
   cut_stop left old now before desk made send.Memory w = (λ text told. tt, tt)
-
-  pub cut_aired : (earlier : List Aired) (desk : DeskState) (player : Sending) (before now : Option (List ℕ)) (stop : SendStop) → OnAirTo earlier desk player before now (Err stop)
-      → AiredTo {T = Unit {0}} earlier desk player before now (Err (send_stop stop))
-  cut_aired earlier desk player before now send.Air has = has
-  cut_aired earlier desk player before now send.Memory has = tt
 
   -- ---- a read that failed
 
@@ -258,40 +248,39 @@ module _ (shift : ℕ) where
       let lines = w.lines ++ f.lines in
       let all = done_last before desk made (ahead_with old lines reading.Breaks) (ahead_with now f.lines reading.Breaks) w.done Unread (w.reads f.lines reading.Breaks)
       (stop_ahead desk made (ahead_with now f.lines reading.Breaks) reading.Unread f.reads) in
-      let did = stopped_did (course_at shift before None (ahead_with old lines reading.Breaks)) w.done Unread before desk all w.did in
       record {
         lines = lines;
         whole = whole_more left old now new w.lines f.lines w.handed f.unended f.whole;
         unended = w.handed.since f.unended;
-        stop = did.0;
-        did = did.1;
+        did = stopped_did (course_at shift before None (ahead_with old lines reading.Breaks)) w.done Unread before desk all w.did;
       }
 
   pub taken : {S : Type 0} (left : S → Known) (faults : S → ℕ) (old now new : Reading S) (before desk : DeskState) (after : Bool) (made : Option Outcome) (stop : EditStop) → after ≡ is_some made → Went shift left old now before desk made
       → Takes {T = ScriptItem} left faults (first_script_item after) now new (Err stop) → RestTaken shift left old new before desk (Err (read_stop stop))
   taken left faults old now new before desk after made (edits.Read Failed) e w f = failed_at left faults old now new before desk made w (subst (λ (b : Bool). Faulted left faults (first_script_item b) now new) e f)
-  taken left faults old now new before desk after made (edits.Read Overlong) e w f = tt
-  taken left faults old now new before desk after made (edits.NoCommand n) e w f = tt
-  taken left faults old now new before desk after made edits.Memory e w f = tt
+  taken left faults old now new before desk after made other e w f = tt
 
--- ---- which stops come behind the description
+-- ---- a step at the desk of a script
 
-pub item_behind : (stop : PlayStop) → IsItemStop stop → IsStopBehind stop
-item_behind Air is = absurd is
-item_behind other is = is
+-- the outcome of a step is that of the desk's journal
+pub outcome_at : (state : DeskState) (desk : LeanDesk) (s : Step) (outcome : Outcome) → Stands state desk → outcome ≡ outcome_of desk.mux state.entries s → outcome ≡ outcome_of state.mux state.entries s
+outcome_at state desk s outcome stands is = is ∙ ap (λ (m : Mux). outcome_of m state.entries s) stands.mux
 
-pub item_no_air : (before now : ℕ) (stop : PlayStop) → IsItemStop stop → HasAirCause {T = Unit {0}} before now (Err stop)
-item_no_air before now Air is = absurd is
-item_no_air before now other is = tt
+pub stepped : (state : DeskState) (old new : LeanDesk) (who : ℕ) (s : Step) (outcome : Outcome) → Stands state old → new.mux ≡ old.mux → outcome ≡ outcome_of state.mux state.entries s
+    → StandsFor (with_entry state.entries who s outcome) new → Stands (and_step state who s) new
+stepped state old new who s outcome stands mux is journal = record {
+  mux = mux ∙ stands.mux;
+  journal = subst (λ (o : Outcome). StandsFor (with_entry state.entries who s o) new) is journal;
+}
 
-pub sent_behind : (stop : SendStop) → IsStopBehind (send_stop stop)
-sent_behind send.Air = tt
-sent_behind send.Memory = tt
+-- a step was read and done
+pub entered : {S : Type 0} (left : S → Option (List ℕ)) (first old new : Reading S) (before state : DeskState) (desk next : ScriptDesk) (who : ℕ) (s : Step)
+    → next.shift ≡ desk.shift → Went desk.shift left first old before state desk.last → ItemRead desk.shift left old new (is_some desk.last) (step who s)
+    → next.last ≡ Some (raised next.shift (outcome_of state.mux state.entries s)) → Went next.shift left first new before (and_step state who s) next.last
+entered left first old new before state desk next who s shift went read last =
+    subst (λ (n : ℕ). Went n left first new before (and_step state who s) next.last) (sym shift)
+    (went_step desk.shift left first old new before state (and_step state who s) desk.last next.last who s went read refl (last ∙ ap (λ (n : ℕ). Some (raised n (outcome_of state.mux state.entries s))) shift))
 
-pub sent_no_read : (before now : ℕ) (stop : SendStop) → HasReadCause {T = Unit {0}} before now (Err (send_stop stop))
-sent_no_read before now send.Air = tt
-sent_no_read before now send.Memory = tt
-
-pub sent_caused : (before mid now : ℕ) (stop : SendStop) → before ≤ mid → HasSendCause mid now (Err stop) → HasAirCause {T = Unit {0}} before now (Err (send_stop stop))
-sent_caused before mid now send.Air le cause = Rose-from before mid now le cause
-sent_caused before mid now send.Memory le cause = tt
+-- an outcome that agrees leaves the desk as it was, but for the outcome that may be kept
+pub agreed_at : (before state : DeskState) (desk : ScriptDesk) → IsAt before state desk → IsAt before state (record desk { last = None })
+agreed_at before state desk at = record { more = at.more; entries = at.entries; stands = at.stands; made = at.made }

@@ -5,12 +5,14 @@ use Rattle.std.specs.Io.KnownBytes.{Appends, IsAtEnd}
 use Rattle.si_causes.proofs.CauseFacts.{Appends-nothing}
 use Rattle.si_causes.specs.Causes.{Rose}
 use Rattle.si_causes.specs.Opening.{Files, Tries, file_at}
-use Rattle.si_causes.specs.declared.stop.ReadStop.TheVariants.{Failed, TooLong as Overlong}
-use Rattle.input_lines.specs.Ahead.{Ahead, Came, End, Found, NoCommand as NoLine, Stop as LineStop, Stopped, TooLong as PastEnd, Unread as Broken}
+use Rattle.si_causes.specs.Text.{lines_left}
+use Rattle.si_causes.specs.declared.stop.ReadStop.TheVariants.{Failed}
+use Rattle.input_lines.specs.Ahead.{Ahead, Came, Found, NoCommand as NoLine, Stop as LineStop, Stopped, TooLong as PastEnd, Unread as Broken, ahead_in}
 use Rattle.air_model.specs.Air.{Aired}
 use Rattle.mux_model.specs.declared.mux.Mux.{Mux}
 use Rattle.mux_model.proofs.FedFacts.{fed_named}
-use Rattle.mux_config.specs.Descriptions.{Description}
+use Rattle.mux_config.specs.Descriptions.{Description, description_ahead}
+use Rattle.mux_config.specs.Texts.{ahead_taken, described_taken}
 use Rattle.mux_config.proofs.FineLines.{described_texts_are_kept, whole_descriptions_are_sound}
 use Rattle.journal_model.specs.declared.step.Entry.{Entry}
 use Rattle.journal_model.specs.Steps.{Command}
@@ -24,7 +26,7 @@ use Rattle.desk_core.specs.Journal.{publishes}
 use Rattle.desk_checkpoint.specs.Checkpoints.{Checkpoint}
 use Rattle.epg_report.specs.declared.status.Status.{Status}
 use Rattle.epg_report.specs.declared.status.Status.TheVariants.{BadCheckpoint, BadMux, BadScript, Disagrees, Done, Memory, OpenFault, ReadFault, TooLong as PastLimit, WriteFault}
-use Rattle.epg_report.specs.declared.status.Origin.TheVariants.{Input, Feed, Recording}
+use Rattle.epg_report.specs.declared.status.Origin.TheVariants.{Input, Recording}
 use Rattle.epg_report.specs.declared.status.Outlet.TheVariants.{Air, Report}
 use Rattle.epg_report.specs.Asked.{AtPath, HasAskedFor}
 use Rattle.epg_report.specs.Ends.{ReportEnds, or_report}
@@ -32,21 +34,21 @@ use Rattle.epg_report.specs.Texts.{fault_lines}
 use Rattle.epg_report.specs.Told.{OpenerAsked, ReportTaken, Reported, SourceGave}
 use Rattle.epg_report.proofs.Asking.{asked_memory}
 use Rattle.epg_play.specs.declared.stop.PlayStop.{PlayStop}
-use Rattle.epg_play.specs.declared.stop.PlayStop.TheVariants.{NoMux as Undescribed, NoCommand as Refused, Disagrees as Differs, Read, Air as OnAir, Memory as NoMemory}
-use Rattle.epg_play.specs.Leaves.{Completes, IsOfPlay}
+use Rattle.epg_play.specs.declared.stop.PlayStop.TheVariants.{NoMux as Undescribed, Read, Air as OnAir, Memory as NoMemory}
+use Rattle.epg_play.specs.Leaves.{Completes, IsOfPlay, met_by, script_status}
 use Rattle.epg_play.specs.Played.{DeskDid, course}
 use Rattle.epg_play.specs.Script.{Stop, NoMux, script_with, script_within}
 use Rattle.epg_play.specs.declared.played.Course.{Course}
 use Rattle.epg_play.specs.declared.played.Played.{Played}
 use Rattle.epg_play.specs.Beginning.{BeginsAt, IsNew, IsNotBegun, IsOfResume}
 use Rattle.epg_play.specs.Checkpointed.{HasRun, IsCheckpoint, checkpoint_limit, checkpoint_of}
-use Rattle.epg_play.specs.Courses.{BeganAt, BegunFrom, CourseBehind, EndsAs, Finished, IsMetByResume, IsMetByScript, IsPlayedText, NotPlayed, PlayedNew, PlayedResumed, met_by}
+use Rattle.epg_play.specs.Courses.{BeganAt, BegunFrom, CourseBehind, EndsAs, Finished, IsMetByResume, IsMetByScript, IsPlayedText, NotPlayed, PlayedNew, PlayedResumed}
 use Rattle.epg_play.specs.Behind.{LeavesBehind}
 use Rattle.epg_play.specs.CheckpointRuns.{Begins, FoldRunWithin, Nothing, NothingAsked, ResumeRunWithin, Resumes, Tells, course_on}
 use Rattle.epg_play.specs.Over.{LeavesBy, LeavesOver, described_within}
 use Rattle.epg_play.proofs.Bases.{begun_aired, begun_tallied, folded_base, new_base, nothing_folded}
-use Rattle.epg_play.proofs.BehindFacts.{leaves_behind}
-use Rattle.epg_play.proofs.OverFacts.{AreDescribed, over_done, over_same}
+use Rattle.epg_play.proofs.BehindFacts.{leaves_behind, reported_fault}
+use Rattle.epg_play.proofs.CourseFacts.{ended_is}
 use Rattle.epg_play.proofs.ReadBack.{begun_from, read_as, same_checkpoint}
 
 -- ---- how a run ends
@@ -55,46 +57,58 @@ or_cases : (s : Status) → (s ≡ Done) ⊎ (or_report s ≡ s)
 or_cases Done = inl refl
 or_cases other = inr refl
 
--- the status of a run, by the one that was met
-pub finished_as : (fold : Bool) (played : Played) (report : ReportTaken) (status : Status) → Finished fold played report status
-    → (status ≡ Memory) ⊎ ((status ≡ played.met) ⊎ ((played.met ≡ Done) × (status ≡ WriteFault Report) × Rose report.faults_old report.faults_new))
-finished_as fold played report status (inl memory) = inl memory
-finished_as fold played report status (inr e) = by (or_cases played.met) e.reported
+-- What holds of the status that was met, of want of memory and of a report that was not written holds of the status of a run.
+finished_as : (P : Status → Type 0) (fold : Bool) (played : Played) (report : ReportTaken) (status : Status) → Finished fold played report status
+    → P Memory → (played.met ≡ Done → Rose report.faults_old report.faults_new → P (WriteFault Report)) → P played.met → P status
+finished_as P fold played report status (inl memory) memory_is report_is met = subst P (sym memory) memory_is
+finished_as P fold played report status (inr e) memory_is report_is met = by (or_cases played.met) e.reported
   where
-    by : (played.met ≡ Done) ⊎ (or_report played.met ≡ played.met) → ReportEnds played.met e.text report status
-        → (status ≡ Memory) ⊎ ((status ≡ played.met) ⊎ ((played.met ≡ Done) × (status ≡ WriteFault Report) × Rose report.faults_old report.faults_new))
-    by own (inl (took, is)) = inr (inl is)
-    by (inl done) (inr (rose, front, is)) = inr (inr (done, is ∙ ap or_report done, rose))
-    by (inr own) (inr (rose, front, is)) = inr (inl (is ∙ own))
+    by : (played.met ≡ Done) ⊎ (or_report played.met ≡ played.met) → ReportEnds played.met e.text report status → P status
+    by own (inl (took, is)) = subst P (sym is) met
+    by (inl done) (inr (rose, front, is)) = subst P (sym (is ∙ ap or_report done)) (report_is done rose)
+    by (inr own) (inr (rose, front, is)) = subst P (sym (is ∙ own)) met
 
 module _ (fold : Bool) (played : Played) (report : ReportTaken) (status : Status) (finished : Finished fold played report status) where
   -- a status of its own was met
-  pub met_is : (s : Status) → (Memory ≡ s → ⊥) → (WriteFault Report ≡ s → ⊥) → status ≡ s → played.met ≡ s
-  met_is s no_memory no_report e = by (finished_as fold played report status finished)
-    where
-      by : (status ≡ Memory) ⊎ ((status ≡ played.met) ⊎ ((played.met ≡ Done) × (status ≡ WriteFault Report) × Rose report.faults_old report.faults_new)) → played.met ≡ s
-      by (inl memory) = absurd (no_memory (sym memory ∙ e))
-      by (inr (inl is)) = sym is ∙ e
-      by (inr (inr (done, is, rose))) = absurd (no_report (sym is ∙ e))
+  met_is : (s : Status) → (Memory ≡ s → ⊥) → (WriteFault Report ≡ s → ⊥) → status ≡ s → played.met ≡ s
+  met_is s no_memory no_report =
+      finished_as (λ (t : Status). t ≡ s → played.met ≡ s) fold played report status finished (λ e. absurd (no_memory e)) (λ done rose e. absurd (no_report e)) (λ e. e)
 
-  pub report_rose : (played.met ≡ WriteFault Report → ⊥) → status ≡ WriteFault Report → Rose report.faults_old report.faults_new
-  report_rose not e = by (finished_as fold played report status finished)
-    where
-      by : (status ≡ Memory) ⊎ ((status ≡ played.met) ⊎ ((played.met ≡ Done) × (status ≡ WriteFault Report) × Rose report.faults_old report.faults_new)) → Rose report.faults_old report.faults_new
-      by (inl memory) = (let no : Memory ≡ WriteFault Report = sym memory ∙ e in cc no)
-      by (inr (inl is)) = absurd (not (sym is ∙ e))
-      by (inr (inr (done, is, rose))) = rose
-
-  -- what holds of the statuses that are met, of want of memory and of a report that was not written
-  pub known_by : (P : Status → Type 0) → P Memory → P (WriteFault Report) → P played.met → P status
-  known_by P memory_is report_is met = by (finished_as fold played report status finished)
-    where
-      by : (status ≡ Memory) ⊎ ((status ≡ played.met) ⊎ ((played.met ≡ Done) × (status ≡ WriteFault Report) × Rose report.faults_old report.faults_new)) → P status
-      by (inl memory) = subst P (sym memory) memory_is
-      by (inr (inl is)) = subst P (sym is) met
-      by (inr (inr (done, is, rose))) = subst P (sym is) report_is
+  report_rose : (played.met ≡ WriteFault Report → ⊥) → status ≡ WriteFault Report → Rose report.faults_old report.faults_new
+  report_rose not =
+      finished_as (λ (t : Status). t ≡ WriteFault Report → Rose report.faults_old report.faults_new) fold played report status finished (λ e. cc e) (λ done rose e. rose) (λ e. absurd (not e))
 
 -- ---- over a text
+
+-- lines describe this multiplex, and these lines are behind its description
+abbrev pub AreDescribed : Mux → Ahead → Type 0
+AreDescribed mux lines = (from : Ahead) × (description_ahead from ≡ Came (Ok mux) lines)
+
+module _ (Idle Left : Status → Type 0) (B B2 : Mux → Ahead → Status → Type 0) where
+  by_same : (found : Found Description) (from : Ahead) (status : Status) → found ≡ description_ahead from
+      → ((mux : Mux) (lines : Ahead) → AreDescribed mux lines → B mux lines status → B2 mux lines status) → (Idle status → Left status) → LeavesBy Idle B found status → LeavesBy Left B2 found status
+  by_same (Came (Ok mux) lines) from status e behind idle h = behind mux lines (from, sym e) h
+  by_same (Came (Err fault) lines) from status e behind idle h = (h.0, idle h.1)
+  by_same (Stopped stop) from status e behind idle h = (h.0, idle h.1)
+
+  over_same : (limit : ℕ) (text : List ℕ) (left : Option (List ℕ)) (status : Status) → ((mux : Mux) (lines : Ahead) → AreDescribed mux lines → B mux lines status → B2 mux lines status)
+      → (Idle status → Left status) → LeavesOver limit Idle B text left status → LeavesOver limit Left B2 text left status
+  over_same limit text left (ReadFault Input) behind idle h =
+      record { taken = h.taken; rest = h.rest; text_is = h.text_is; left_is = h.left_is; leaves = by_same (described_taken h.taken) (ahead_taken h.taken) (ReadFault Input) refl behind idle h.leaves }
+  over_same limit text left Memory behind idle h = tt
+  over_same limit text left other behind idle h = by_same (described_within limit text) (ahead_in 1 (lines_left limit text)) other refl behind idle h
+
+  -- a script that is played to its end was described, and a report that fails changes its status
+  by_done : (found : Found Description) (from : Ahead) → found ≡ description_ahead from
+      → ((mux : Mux) (lines : Ahead) → AreDescribed mux lines → B mux lines Done → B2 mux lines (WriteFault Report)) → LeavesBy Idle B found Done → LeavesBy Left B2 found (WriteFault Report)
+  by_done (Came (Ok mux) lines) from e behind h = behind mux lines (from, sym e) h
+  by_done (Came (Err fault) lines) from e behind h = (let no : Done ≡ BadMux fault = h.0 in cc no)
+  by_done (Stopped Broken) from e behind h = (let no = h.0 in cc no)
+  by_done (Stopped stop) from e behind h = (let no = h.0 in cc no)
+
+  over_done : (limit : ℕ) (text : List ℕ) (left : Option (List ℕ)) → ((mux : Mux) (lines : Ahead) → AreDescribed mux lines → B mux lines Done → B2 mux lines (WriteFault Report))
+      → LeavesOver limit Idle B text left Done → LeavesOver limit Left B2 text left (WriteFault Report)
+  over_done limit text left behind h = by_done (described_within limit text) (ahead_in 1 (lines_left limit text)) refl behind h
 
 -- where nothing was played, the report is the line of the fault
 idle_reported : (fold : Bool) (course : Option Course) (met : Status) (report : ReportTaken) (text : List ℕ) → course ≡ None → IsPlayedText fold course met text
@@ -170,35 +184,28 @@ new_behind fold air report played mux lines status is c finished =
 -- where neither the input nor a sink fails, the script decides
 new_behind_decides : (fold : Bool) (mux : Mux) (lines : Ahead) (air report : ReportTaken) (status : Status) → LeavesBehind fold mux [] [] air report lines status → IsOfPlay status
     → (status ≡ ReadFault Input → ⊥) → (status ≡ WriteFault Air → ⊥) → (status ≡ WriteFault Report → ⊥) → Completes (script_with (Came (Ok mux) lines)).stop status
-new_behind_decides fold mux lines air report Done leave known no_input no_air no_report = leave.1.ended
-new_behind_decides fold mux lines air report (BadScript n) leave known no_input no_air no_report = leave.stopped
-new_behind_decides fold mux lines air report (Disagrees n kept found) leave known no_input no_air no_report = leave.stopped
-new_behind_decides fold mux lines air report (PastLimit Input) leave known no_input no_air no_report = leave.stopped
-new_behind_decides fold mux lines air report (PastLimit (Feed f)) leave known no_input no_air no_report = absurd known
-new_behind_decides fold mux lines air report (PastLimit Recording) leave known no_input no_air no_report = absurd known
+new_behind_decides fold mux lines air report Done leave known no_input no_air no_report = sym (ap script_status leave.1.ended)
 new_behind_decides fold mux lines air report (ReadFault Input) leave known no_input no_air no_report = absurd (no_input refl)
-new_behind_decides fold mux lines air report (ReadFault (Feed f)) leave known no_input no_air no_report = absurd known
 new_behind_decides fold mux lines air report (ReadFault Recording) leave known no_input no_air no_report = absurd known
 new_behind_decides fold mux lines air report (WriteFault Air) leave known no_input no_air no_report = absurd (no_air refl)
 new_behind_decides fold mux lines air report (WriteFault Report) leave known no_input no_air no_report = absurd (no_report refl)
-new_behind_decides fold mux lines air report (BadMux fault) leave known no_input no_air no_report = absurd leave
+new_behind_decides fold mux lines air report (BadScript n) leave known no_input no_air no_report = leave.stopped
+new_behind_decides fold mux lines air report (Disagrees n kept found) leave known no_input no_air no_report = leave.stopped
+new_behind_decides fold mux lines air report (PastLimit Input) leave known no_input no_air no_report = leave.stopped
+new_behind_decides fold mux lines air report (OpenFault n) leave known no_input no_air no_report = absurd known
 new_behind_decides fold mux lines air report Memory leave known no_input no_air no_report = tt
-new_behind_decides fold mux lines air report other leave known no_input no_air no_report = absurd known
+new_behind_decides fold mux lines air report other leave known no_input no_air no_report = absurd leave
 
 new_decides : (fold : Bool) (found : Found Description) (air report : ReportTaken) (status : Status) → LeavesBy (Nothing air report) (λ mux. LeavesBehind fold mux [] [] air report) found status → IsOfPlay status
     → (status ≡ ReadFault Input → ⊥) → (status ≡ WriteFault Air → ⊥) → (status ≡ WriteFault Report → ⊥) → Completes (script_with found).stop status
 new_decides fold (Came (Ok mux) lines) air report status leave known no_input no_air no_report = new_behind_decides fold mux lines air report status leave known no_input no_air no_report
 new_decides fold (Came (Err fault) lines) air report status leave known no_input no_air no_report = subst (Completes (NoMux fault)) (sym leave.0) refl
-new_decides fold (Stopped End) air report status leave known no_input no_air no_report = subst (Completes (script_with (Stopped End)).stop) (sym leave.0) refl
-new_decides fold (Stopped (NoLine n)) air report status leave known no_input no_air no_report = subst (Completes (script_with (Stopped (NoLine n))).stop) (sym leave.0) refl
-new_decides fold (Stopped PastEnd) air report status leave known no_input no_air no_report = subst (Completes (script_with (Stopped PastEnd)).stop) (sym leave.0) refl
 new_decides fold (Stopped Broken) air report status leave known no_input no_air no_report = absurd (no_input leave.0)
+new_decides fold (Stopped stop) air report status leave known no_input no_air no_report = subst (Completes (script_with (Stopped stop)).stop) (sym leave.0) refl
 
 pub new_completes : (limit : ℕ) (fold : Bool) (text : List ℕ) (left : Option (List ℕ)) (air report : ReportTaken) (status : Status) → LeavesOver limit (Nothing air report) (λ mux. LeavesBehind fold mux [] [] air report) text left status → IsOfPlay status
     → (status ≡ ReadFault Input → ⊥) → (status ≡ WriteFault Air → ⊥) → (status ≡ WriteFault Report → ⊥) → Completes (script_within limit text).stop status
 new_completes limit fold text left air report (ReadFault Input) over known no_input no_air no_report = absurd (no_input refl)
-new_completes limit fold text left air report (ReadFault (Feed f)) over known no_input no_air no_report = absurd known
-new_completes limit fold text left air report (ReadFault Recording) over known no_input no_air no_report = absurd known
 new_completes limit fold text left air report Memory over known no_input no_air no_report = tt
 new_completes limit fold text left air report other over known no_input no_air no_report = new_decides fold (described_within limit text) air report other over known no_input no_air no_report
 
@@ -207,7 +214,6 @@ script_no_report met is e = subst IsMetByScript e is
 
 script_known : (met : Status) → IsMetByScript met → IsOfPlay met
 script_known (WriteFault Report) is = absurd is
-script_known (WriteFault Air) is = is
 script_known other is = is
 
 -- A run from a head-end that did nothing yet, whose report is the journal or, with `--fold`, the checkpoint.
@@ -230,7 +236,7 @@ ran_new limit fold input air report played status over known end input_rose air_
     (λ mux lines met. CourseBehind fold (IsNew mux) air.old air.new played lines) (λ mux. LeavesBehind fold mux [] [] air report)
     (λ met idle. (idle.no_course, nothing_of air report met idle.air))
     (λ mux lines s is c f. new_behind fold air report played mux lines s is c f) text input.new status (over text tells) finished in
-    let is_known : IsOfPlay status = known_by fold played report status finished IsOfPlay tt tt (script_known played.met known) in
+    let is_known : IsOfPlay status = finished_as IsOfPlay fold played report status finished tt (λ done rose. tt) (script_known played.met known) in
     let input_cause : status ≡ ReadFault Input → Rose input.faults_old input.faults_new = λ e. input_rose (met_is fold played report status finished (ReadFault Input) (λ no. cc no) (λ no. cc no) e) in
     let air_cause : status ≡ WriteFault Air → Rose air.faults_old air.faults_new = λ e. air_rose (met_is fold played report status finished (WriteFault Air) (λ no. cc no) (λ no. cc no) e) in
     let report_cause : status ≡ WriteFault Report → Rose report.faults_old report.faults_new = report_rose fold played report status finished (script_no_report played.met known) in
@@ -275,8 +281,9 @@ fold_memory limit input air report status e = folded_run limit input air report 
 
 -- ---- from a checkpoint
 
-not_done : (met : Status) → IsNotBegun met → met ≡ Done → ⊥
-not_done met is e = subst IsNotBegun e is
+own_begun : (met : Status) → IsNotBegun met → or_report met ≡ met
+own_begun Done is = absurd is
+own_begun other is = refl
 
 module _ (path : List ℕ) (files : Files) (fold : Bool) (air report : ReportTaken) (mux : Mux) (lines : Ahead) where
   -- a file that holds the checkpoint of a journal is not refused
@@ -292,11 +299,7 @@ module _ (path : List ℕ) (files : Files) (fold : Bool) (air report : ReportTak
   not_begun opener tried (OpenFault n) at is nothing = record { asked = tried; begins = (at, nothing); goes_on = λ journal earlier bytes file le run cp. tt }
   not_begun opener tried (BadCheckpoint n) at is nothing = record { asked = tried; begins = (at, nothing); goes_on = λ journal earlier bytes file le run cp. absurd (refused (NoLine n) at journal earlier bytes file le run cp) }
   not_begun opener tried (PastLimit Recording) at is nothing = record { asked = tried; begins = (at, nothing); goes_on = λ journal earlier bytes file le run cp. absurd (refused PastEnd at journal earlier bytes file le run cp) }
-  not_begun opener tried (PastLimit Input) at is nothing = absurd is
-  not_begun opener tried (PastLimit (Feed f)) at is nothing = absurd is
   not_begun opener tried (ReadFault Recording) at is nothing = record { asked = tried; begins = nothing; goes_on = λ journal earlier bytes file le run cp. tt }
-  not_begun opener tried (ReadFault Input) at is nothing = absurd is
-  not_begun opener tried (ReadFault (Feed f)) at is nothing = absurd is
   not_begun opener tried Memory at is nothing = record { asked = tried; begins = tt; goes_on = λ journal earlier bytes file le run cp. tt }
   not_begun opener tried other at is nothing = absurd is
 
@@ -305,27 +308,19 @@ module _ (path : List ℕ) (files : Files) (fold : Bool) (air report : ReportTak
   OnFile status = AtPath path files (λ bytes. (cp : Checkpoint) × (checkpoint_of mux bytes ≡ Ok cp) × Tells (course_on cp lines).1 status)
 
   tells_stop : (rest : List Command × Stop) (old new : DeskState) (stop : Result (Unit {0}) PlayStop) → DeskDid rest old new stop → Tells rest.1 (met_by stop)
-  tells_stop rest old new (Ok u) did = did.0
   tells_stop rest old new (Err (Undescribed fault)) did = absurd did
-  tells_stop rest old new (Err (Refused n)) did = did.0
-  tells_stop rest old new (Err (Differs n kept found)) did = did.0
-  tells_stop rest old new (Err (Read Overlong)) did = did.0
-  tells_stop rest old new (Err (Read Failed)) did = did.0
   tells_stop rest old new (Err OnAir) did = tt
   tells_stop rest old new (Err NoMemory) did = tt
+  tells_stop rest old new (Err (Read Failed)) did = did.0
+  tells_stop rest old new other did = did.0
 
   begins_by : (stop : Result (Unit {0}) PlayStop) → OnFile (met_by stop) → Begins path files (Nothing air report) mux lines (met_by stop)
-  begins_by (Ok u) on = on
-  begins_by (Err (Undescribed fault)) on = on
-  begins_by (Err (Refused n)) on = on
-  begins_by (Err (Differs n kept found)) on = on
-  begins_by (Err (Read Overlong)) on = on
-  begins_by (Err (Read Failed)) on = on
-  begins_by (Err OnAir) on = on
   begins_by (Err NoMemory) on = tt
+  begins_by (Err (Read Failed)) on = on
+  begins_by other on = on
 
   done_tells : OnFile Done → OnFile (WriteFault Report)
-  done_tells on = record { bytes = on.bytes; file = on.file; is = (on.is.0, on.is.1, on.is.2) }
+  done_tells on = record { bytes = on.bytes; file = on.file; is = (on.is.0, on.is.1, ended_is _ on.is.2) }
 
   on_file : (played : Played) (c : CourseBehind fold (BeganAt path files mux) air.old air.new played lines) → OnFile (met_by c.on.stop)
   on_file played c =
@@ -336,12 +331,10 @@ module _ (path : List ℕ) (files : Files) (fold : Bool) (air report : ReportTak
       record { bytes = at.bytes; file = at.file; is = (at.is.0, at.is.1, tells_stop (course_on at.is.0 lines) at.is.0.desk c.on.left.now c.on.stop did) }
 
   course_begins : (played : Played) (c : CourseBehind fold (BeganAt path files mux) air.old air.new played lines) (status : Status) → Finished fold played report status → Begins path files (Nothing air report) mux lines status
-  course_begins played c status finished = by (finished_as fold played report status finished)
-    where
-      by : (status ≡ Memory) ⊎ ((status ≡ played.met) ⊎ ((played.met ≡ Done) × (status ≡ WriteFault Report) × Rose report.faults_old report.faults_new)) → Begins path files (Nothing air report) mux lines status
-      by (inl memory) = subst (Begins path files (Nothing air report) mux lines) (sym memory) tt
-      by (inr (inl is)) = subst (Begins path files (Nothing air report) mux lines) (sym (is ∙ c.on.met)) (begins_by c.on.stop (on_file played c))
-      by (inr (inr (done, is, rose))) = subst (Begins path files (Nothing air report) mux lines) (sym is) (done_tells (subst OnFile (sym c.on.met ∙ done) (on_file played c)))
+  course_begins played c status finished =
+      finished_as (Begins path files (Nothing air report) mux lines) fold played report status finished tt
+      (λ done rose. done_tells (subst OnFile (sym c.on.met ∙ done) (on_file played c)))
+      (subst (Begins path files (Nothing air report) mux lines) (sym c.on.met) (begins_by c.on.stop (on_file played c)))
 
   course_goes_on : (played : Played) (c : CourseBehind fold (BeganAt path files mux) air.old air.new played lines) (status : Status) → Finished fold played report status
       → (journal : List Entry) (earlier : List Aired) (bytes : List ℕ) → file_at path files ≡ Some bytes → length bytes ≤ checkpoint_limit → HasRun mux journal earlier → IsCheckpoint mux journal earlier bytes
@@ -360,16 +353,10 @@ module _ (path : List ℕ) (files : Files) (fold : Bool) (air report : ReportTak
   resumed_behind opener tried played status (inr c) finished = record { asked = tried; begins = course_begins played c status finished; goes_on = course_goes_on played c status finished }
   resumed_behind opener tried played status (inl (at, known, idle)) (inl memory) =
       subst (Resumes path files fold opener air report mux lines) (sym memory) (record { asked = tried; begins = tt; goes_on = λ journal earlier bytes file le run cp. tt })
-  resumed_behind opener tried played status (inl (at, known, idle)) (inr e) = by (or_cases played.met) e.reported
-    where
-      there : Reported report (fault_lines played.met) → Resumes path files fold opener air report mux lines played.met
-      there took = not_begun opener tried played.met at known (nothing_of air report played.met idle.air took)
-
-      by : (played.met ≡ Done) ⊎ (or_report played.met ≡ played.met) → ReportEnds played.met e.text report status → Resumes path files fold opener air report mux lines status
-      by (inl done) ends = absurd (not_done played.met known done)
-      by (inr own) (inl (took, is)) = subst (Resumes path files fold opener air report mux lines) (sym is) (there (idle_reported fold played.course played.met report e.text idle.no_course e.text_is (inl took)))
-      by (inr own) (inr (rose, front, is)) =
-          subst (Resumes path files fold opener air report mux lines) (sym (is ∙ own)) (there (idle_reported fold played.course played.met report e.text idle.no_course e.text_is (inr (rose, front))))
+  resumed_behind opener tried played status (inl (at, known, idle)) (inr e) =
+      let fault = reported_fault played.met e.text report status (own_begun played.met known) e.reported in
+      subst (Resumes path files fold opener air report mux lines) (sym fault.0)
+      (not_begun opener tried played.met at known (nothing_of air report played.met idle.air (idle_reported fold played.course played.met report e.text idle.no_course e.text_is fault.1)))
 
   -- where nothing fails and the file holds a checkpoint, the script on it decides
   on_checkpoint : (bytes : List ℕ) (cp : Checkpoint) (status : Status) → file_at path files ≡ Some bytes → checkpoint_of mux bytes ≡ Ok cp → OnFile status → Tells (course_on cp lines).1 status
@@ -387,10 +374,7 @@ module _ (path : List ℕ) (files : Files) (fold : Bool) (air report : ReportTak
   decides bytes cp (OpenFault n) file is begins known no_input no_opening no_reading no_air no_report = absurd (no_opening n refl)
   decides bytes cp (ReadFault Recording) file is begins known no_input no_opening no_reading no_air no_report = absurd (no_reading refl)
   decides bytes cp (ReadFault Input) file is begins known no_input no_opening no_reading no_air no_report = absurd (no_input refl)
-  decides bytes cp (ReadFault (Feed f)) file is begins known no_input no_opening no_reading no_air no_report = absurd known
   decides bytes cp (PastLimit Recording) file is begins known no_input no_opening no_reading no_air no_report = absurd (no_checkpoint PastEnd bytes cp file is begins.0)
-  decides bytes cp (PastLimit Input) file is begins known no_input no_opening no_reading no_air no_report = on_checkpoint bytes cp (PastLimit Input) file is begins
-  decides bytes cp (PastLimit (Feed f)) file is begins known no_input no_opening no_reading no_air no_report = absurd known
   decides bytes cp (BadCheckpoint n) file is begins known no_input no_opening no_reading no_air no_report = absurd (no_checkpoint (NoLine n) bytes cp file is begins.0)
   decides bytes cp (WriteFault Air) file is begins known no_input no_opening no_reading no_air no_report = absurd (no_air refl)
   decides bytes cp (WriteFault Report) file is begins known no_input no_opening no_reading no_air no_report = absurd (no_report refl)
@@ -407,8 +391,6 @@ resume_completes : (limit : ℕ) (path : List ℕ) (files : Files) (fold : Bool)
     → (status ≡ ReadFault Input → ⊥) → ((n : ℕ) → status ≡ OpenFault n → ⊥) → (status ≡ ReadFault Recording → ⊥) → (status ≡ WriteFault Air → ⊥) → (status ≡ WriteFault Report → ⊥)
     → Completes (course_on cp lines).1 status
 resume_completes limit path files fold opener air report text left mux lines bytes cp (ReadFault Input) over is file reads known no_input no_opening no_reading no_air no_report = absurd (no_input refl)
-resume_completes limit path files fold opener air report text left mux lines bytes cp (ReadFault (Feed f)) over is file reads known no_input no_opening no_reading no_air no_report = absurd known
-resume_completes limit path files fold opener air report text left mux lines bytes cp (ReadFault Recording) over is file reads known no_input no_opening no_reading no_air no_report = absurd (no_reading refl)
 resume_completes limit path files fold opener air report text left mux lines bytes cp Memory over is file reads known no_input no_opening no_reading no_air no_report = tt
 resume_completes limit path files fold opener air report text left mux lines bytes cp other over is file reads known no_input no_opening no_reading no_air no_report =
     decides path files fold air report mux lines bytes cp other file reads (by_found path files fold opener air report (described_within limit text) mux lines other is over) known no_input no_opening no_reading no_air no_report
@@ -418,21 +400,7 @@ resume_no_report met is e = subst IsMetByResume e is
 
 resume_known : (met : Status) → IsMetByResume met → IsOfResume met
 resume_known (WriteFault Report) is = absurd is
-resume_known (WriteFault Air) is = is
 resume_known other is = is
-
--- a report that is not written leaves the opener as it was asked
-asked_report : (path : List ℕ) (old new : Option (List (List ℕ))) (met status : Status) → met ≡ Done → status ≡ WriteFault Report → HasAskedFor path old new met → HasAskedFor path old new status
-asked_report path old new met status done is asked = subst (HasAskedFor path old new) (sym is) (subst (HasAskedFor path old new) done asked)
-
-resume_asked : (path : List ℕ) (old new : Option (List (List ℕ))) (fold : Bool) (played : Played) (report : ReportTaken) (status : Status) → HasAskedFor path old new played.met → Finished fold played report status
-    → HasAskedFor path old new status
-resume_asked path old new fold played report status asked finished = by (finished_as fold played report status finished)
-  where
-    by : (status ≡ Memory) ⊎ ((status ≡ played.met) ⊎ ((played.met ≡ Done) × (status ≡ WriteFault Report) × Rose report.faults_old report.faults_new)) → HasAskedFor path old new status
-    by (inl memory) = subst (HasAskedFor path old new) (sym memory) (asked_memory path old new played.met asked)
-    by (inr (inl is)) = subst (HasAskedFor path old new) (sym is) asked
-    by (inr (inr (done, is, rose))) = asked_report path old new played.met status done is asked
 
 pub resume_run : (limit : ℕ) (path : List ℕ) (fold : Bool) (opener : OpenerAsked) (input : SourceGave) (air report : ReportTaken) (played : Played) (status : Status)
     → ((text : List ℕ) → input.old ≡ Some text → (files : Files) → opener.files ≡ Some files
@@ -448,7 +416,7 @@ resume_run limit path fold opener input air report played status over known aske
     (Resumes path files fold opener air report)
     (λ met idle. (idle.1.no_course, λ took. (idle.0, nothing_of air report met idle.1.air took)))
     (λ mux lines s is b f. resumed_behind path files fold air report mux lines opener b.0 played s b.1 f) text input.new status (over text tells files has) finished in
-    let is_known : IsOfResume status = known_by fold played report status finished IsOfResume tt tt (resume_known played.met known) in
+    let is_known : IsOfResume status = finished_as IsOfResume fold played report status finished tt (λ done rose. tt) (resume_known played.met known) in
     let met = met_is fold played report status finished in
     let input_cause : status ≡ ReadFault Input → Rose input.faults_old input.faults_new = λ e. input_rose (met (ReadFault Input) (λ no. cc no) (λ no. cc no) e) in
     let open_cause : (n : ℕ) → status ≡ OpenFault n → Rose opener.faults_old opener.faults_new = λ n e. open_rose n (met (OpenFault n) (λ no. cc no) (λ no. cc no) e) in
@@ -461,7 +429,8 @@ resume_run limit path fold opener input air report played status over known aske
           resume_completes limit path files fold opener air report text input.new mux lines bytes cp status (leaves text tells files has) is file reads is_known (λ e. free.no_input (input_cause e))
           (λ n e. free.no_opening (open_cause n e)) (λ e. free.no_reading (read_cause e)) (λ e. free.no_air (air_cause e)) (λ e. free.no_report (report_cause e));
       known = is_known;
-      asked_for = resume_asked path opener.tried_old opener.tried_new fold played report status asked finished;
+      asked_for = finished_as (HasAskedFor path opener.tried_old opener.tried_new) fold played report status finished (asked_memory path opener.tried_old opener.tried_new played.met asked)
+          (λ done rose. subst (HasAskedFor path opener.tried_old opener.tried_new) done asked) asked;
       end = λ e. end (met Done (λ no. cc no) (λ no. cc no) e);
       input_cause = input_cause;
       open_cause = open_cause;

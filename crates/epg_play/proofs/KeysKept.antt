@@ -1,5 +1,5 @@
 -- What is kept of the keys that the airings of a legal journal carried can be written.
-use Rattle.std.proofs.Common.{◌≡◌, Bool, true, false, ℕ, ◌+◌, ◌<◌, ◌≤◌, List, [], ◌∷◌, length, refl, sym, ap, subst, subst₂, arith}
+use Rattle.std.proofs.Common.{◌≡◌, Bool, true, false, ℕ, ◌+◌, ◌%◌, ◌<◌, ◌≤◌, List, [], ◌∷◌, length, refl, sym, ap, ◌∙◌, subst, subst₂, arith}
 use Rattle.std.specs.Prelude.{if◌then◌else◌, Option, Some, option_map, unwrap_or}
 use Rattle.std.specs.List.{AllByRecursion}
 use Rattle.std.proofs.lemmas.List.Elements.{recursion_from_All}
@@ -20,10 +20,10 @@ use Rattle.section_codec.specs.SubTables.{IsFit}
 use Rattle.section_codec.specs.Tables.{is_eit}
 use Rattle.section_codec.proofs.KeyOrderFacts.{is_key-same}
 use Rattle.version_book.specs.declared.key_version.KeyVersion.{KeyVersion}
-use Rattle.version_book.specs.Airings.{AiredTables, content_in}
-use Rattle.version_book.specs.Book.{GivenVersion, given_entry, given_entries}
+use Rattle.version_book.specs.Airings.{AiredTables, carried, changes_after, content_in}
+use Rattle.version_book.specs.Book.{AreOrdered, BookStandsFor, GivenVersion, GivenVersions, given_entries, given_entry, given_in, kept_after}
 use Rattle.version_book.specs.Laws.{WasCarried}
-use Rattle.version_book.proofs.KeptEntries.{kept_was_carried}
+use Rattle.version_book.proofs.KeptEntries.{kept_was_carried, own_entries}
 use Rattle.air_laws.specs.Counting.{IsReadable, CanBeHeard}
 use Rattle.publication.specs.Parts.{own_guide, remote_guide}
 use Rattle.publication.specs.Tables.{tables_of}
@@ -38,7 +38,6 @@ use Rattle.journal_air.proofs.CarryFacts.{each_airing, airings_heard}
 use Rattle.desk_checkpoint.specs.Laws.{IsSectionWritten, IsKeyWritten}
 use Rattle.desk_checkpoint.specs.Text.{HasByteBodies, HasByteContent}
 use Rattle.epg_play.specs.NeverRefused.{KeysAreWritten}
-use Rattle.epg_play.proofs.OwnEntries.{HasSmallVersion, versions_small}
 
 -- ---- keys that stand in the table of PIDs and table_ids
 
@@ -164,6 +163,25 @@ of_carried past all e (before, a, after, parts, at) =
     of_content e.0 e.1.content a.tables (all_at CarriesSuch before a after (subst (AllByRecursion CarriesSuch) parts all)) at
 
 -- ---- what is kept
+
+-- of a key it has a version of 5 bits
+abbrev HasSmallVersion : Key × GivenVersion → Type 0
+HasSmallVersion e = e.1.version < 32
+
+small_after : (cs : List Content) (kept : GivenVersion) → kept_after cs ≡ Some kept → kept.version < 32
+small_after [] kept e = absurd cc
+small_after (c ∷ cs) kept e =
+    let same : changes_after c cs % 32 ≡ kept.version = cc in
+    omega (arith, same)
+
+all_small : (past : List AiredTables) (all : GivenVersions) → BookStandsFor past all → (entries : GivenVersions)
+    → AllByRecursion (λ (e : Key × GivenVersion). given_in e.0 all ≡ Some e.1) entries → AllByRecursion HasSmallVersion entries
+all_small past all stands [] own = tt
+all_small past all stands (e ∷ entries) own =
+    (small_after (carried e.0 past) e.1 (sym (stands e.0) ∙ own.0), all_small past all stands entries own.1)
+
+versions_small : (past : List AiredTables) (entries : GivenVersions) → AreOrdered entries → BookStandsFor past entries → AllByRecursion HasSmallVersion entries
+versions_small past entries ordered stands = all_small past entries stands entries (own_entries entries entries ordered (λ k kept found. found))
 
 sections_written : (ss : List NumberedBody) → AllByRecursion (λ (s : NumberedBody). s.number ≤ 255) ss
     → AllByRecursion (λ (s : NumberedBody). AllByRecursion (λ b. b < 256) s.body) ss → AllByRecursion (λ (s : NumberedBody). length s.body ≤ 4084) ss

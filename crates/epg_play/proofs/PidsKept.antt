@@ -3,6 +3,7 @@ use Rattle.std.proofs.Common.{◌≡◌, ◌≢◌, Bool, true, false, ℕ, ◌<
 use Rattle.std.specs.Prelude.{if◌then◌else◌, Some, None}
 use Rattle.std.specs.List.{AllByRecursion, cons_option}
 use Rattle.std.proofs.lemmas.List.Elements.{recursion_from_All}
+use Rattle.si_lists.proofs.Lists.{all_map, all_two}
 use Rattle.ts_packets.specs.declared.pid_counter.PidCounter.{PidCounter}
 use Rattle.ts_packets.specs.Bytes.{Packet, bytes_of_packet}
 use Rattle.ts_packets.specs.Counting.{Load, loads_on, count_on, next_after}
@@ -42,17 +43,14 @@ none_of pid (c ∷ cs) e = go (c.pid == pid) refl e (none_of pid cs)
     go false is f rest = (λ e. absurd (let no : true ≡ false = sym (eq-eqb c.pid pid e) ∙ is in cc), rest f)
 
 each_written : (cs : List PidCounter) → AllByRecursion IsPidCounter cs → AllByRecursion (λ (c : PidCounter). c.pid ≢ 8191) cs → AllByRecursion (IsCounterWritten None) cs
-each_written [] fit other = tt
-each_written (c ∷ cs) fit other = (record { pid = below c.pid fit.0.0 other.0; next = fit.0.1 }, each_written cs fit.1 other.1)
+each_written = all_two IsPidCounter (λ (c : PidCounter). c.pid ≢ 8191) (IsCounterWritten None) (λ c fit other. record { pid = below c.pid fit.0 other; next = fit.1 })
   where
     below : (pid : ℕ) → pid < 8192 → pid ≢ 8191 → pid ≤ 8190
     below pid lt other = omega (arith, lt, other)
 
 -- at a bit rate a PID has 13 bits
 each_timed : (rate : ℕ) (cs : List PidCounter) → AllByRecursion IsPidCounter cs → AllByRecursion (IsCounterWritten (Some rate)) cs
-each_timed rate [] fit = tt
-each_timed rate (c ∷ cs) fit =
-    (record { pid = omega (arith, fit.0.0); next = fit.0.1 }, each_timed rate cs fit.1)
+each_timed rate = all_map IsPidCounter (IsCounterWritten (Some rate)) (λ c fit. record { pid = omega (arith, fit.0); next = fit.1 })
 
 pub counters_written : CountersAreWritten
 counters_written None airings xs pids is no_null are ascend fit =

@@ -1,20 +1,18 @@
 -- A run of `play` is one from a head-end that did nothing yet, whose report is the journal.
 use Rattle.std.proofs.Common.{◌≡◌, ℕ, List, [], ◌∷◌, ◌++◌, refl, sym, ap, ◌∙◌, subst}
-use Rattle.std.specs.Prelude.{Option, Some, None, Ok, Err, false}
+use Rattle.std.specs.Prelude.{Option, Some, Ok, Err, false}
 use Rattle.std.specs.Io.KnownBytes.{Appends}
 use Rattle.si_causes.specs.Causes.{AppendsFront}
-use Rattle.si_causes.specs.declared.stop.ReadStop.TheVariants.{Failed, TooLong as Overlong}
 use Rattle.si_causes.specs.Text.{lines_left}
 use Rattle.input_lines.specs.Ahead.{Ahead, Breaks, Came, Found, Stopped}
 use Rattle.input_lines.specs.Ahead as lines
 use Rattle.input_lines.specs.Going.{shown_whole}
 use Rattle.version_book.specs.Airings.{AiredTables}
-use Rattle.air_model.specs.Air.{Aired, airings_of}
+use Rattle.air_model.specs.Air.{Aired}
 use Rattle.cycle_player.specs.Airs.{IsAirAt}
+use Rattle.cycle_player.proofs.Airs.{airings_are}
 use Rattle.cycle_player.specs.Tallies.{tally_of}
 use Rattle.mux_model.specs.declared.mux.Mux.{Mux}
-use Rattle.mux_config.specs.declared.fault.Word.TheVariants.{End}
-use Rattle.mux_config.specs.declared.fault.MuxFault.TheVariants.{Missing}
 use Rattle.mux_config.specs.Descriptions.{Description}
 use Rattle.mux_config.specs.Texts.{described_taken}
 use Rattle.journal_model.specs.declared.step.Entry.{Entry}
@@ -22,25 +20,20 @@ use Rattle.journal_text.specs.Entries.{journal_text}
 use Rattle.journal_air.specs.Air.{airings}
 use Rattle.journal_air.specs.AirOf.{AirOf}
 use Rattle.epg_report.specs.declared.status.Status.{Status}
-use Rattle.epg_report.specs.declared.status.Status.TheVariants.{BadMux, BadScript, Disagrees, Done, Memory, ReadFault, TooLong as PastLimit, WriteFault}
-use Rattle.epg_report.specs.declared.status.Origin.TheVariants.{Input, Feed, Recording}
+use Rattle.epg_report.specs.declared.status.Status.TheVariants.{BadMux, BadScript, Disagrees, Done, Memory, OpenFault, ReadFault, TooLong as PastLimit, WriteFault}
+use Rattle.epg_report.specs.declared.status.Origin.TheVariants.{Input, Recording}
 use Rattle.epg_report.specs.declared.status.Outlet.TheVariants.{Air, Report}
 use Rattle.epg_report.specs.Rates.{rate_line}
-use Rattle.epg_report.specs.Texts.{fault_text, fault_line, fault_lines}
+use Rattle.epg_report.specs.Texts.{fault_lines}
 use Rattle.epg_report.specs.Told.{ReportTaken, Reported, SourceGave}
-use Rattle.epg_play.specs.declared.stop.PlayStop.TheVariants.{NoMux as Undescribed, NoCommand as Refused, Disagrees as Differs, Read, Air as OnAir}
-use Rattle.epg_play.specs.Script.{Script, Stop, NoMux, NoCommand, Disagreed, TooLong, Unread, no_mux, script_taken, script_with, script_within}
-use Rattle.epg_play.specs.Leaves.{IsAired, IsAiredFront, IsOfPlay, IsSent, Leaves, LeavesAll, LeavesCut, LeavesDone, LeavesUnreported, PlayRunWithin, first_journal, report_text, stop_text, whole_journal}
+use Rattle.epg_play.specs.Script.{Script, Stop, NoMux, Unread, no_mux, script_taken, script_with, script_within, short_of}
+use Rattle.epg_play.specs.Leaves.{IsAired, IsAiredFront, IsOfPlay, IsSent, Leaves, LeavesAll, LeavesCut, LeavesOf, PlayRunWithin, first_journal, report_text, script_status, whole_journal}
 use Rattle.epg_play.specs.Behind.{AirOn, CutAirOn, CutOn, LeavesBehind, StoppedOn, new_text, played_behind}
 use Rattle.epg_play.specs.CheckpointRuns.{Nothing}
 use Rattle.epg_play.specs.Over.{LeavesBy, LeavesOver, described_within}
 use Rattle.epg_play.proofs.CourseRuns.{NewRun, new_memory}
 use Rattle.epg_play.proofs.RunFacts.{tail_in, text_sent, whole}
 use Rattle.epg_play.proofs.SentFacts.{cut_sent, whole_sent}
-
-airings_are : (rate : Option ℕ) (all : List AiredTables) (xs : List Aired) → IsAirAt rate all xs → airings_of xs ≡ all
-airings_are None all xs is = is.airings_are
-airings_are (Some rate) all xs is = is.airings_are
 
 -- what is said of new entries and their cycles, without earlier ones, is the report of their journal
 text_is : (mux : Mux) (journal : List Entry) (cycles : List Aired) → IsAirAt mux.rate (airings mux journal) cycles → new_text mux journal cycles ≡ report_text (Some mux) journal
@@ -51,18 +44,6 @@ module _ (air report : ReportTaken) where
   record Sends (script : Script) : Type 0 where
     pub all : IsAired script.mux (whole_journal script) air → IsSent script.mux (whole_journal script) air
     pub cut : (k : ℕ) → IsAiredFront script.mux (first_journal k script) air → IsSent script.mux (first_journal k script) air
-
-  -- what a run leaves of a script; where a read failed, of that of the bytes taken
-  abbrev LeavesOf : Script → Status → Type 0
-  LeavesOf script Done = LeavesDone script air report
-  LeavesOf script (BadMux fault) = LeavesAll script (NoMux fault) (stop_text (Undescribed fault)) air report
-  LeavesOf script (BadScript n) = LeavesAll script (NoCommand n) (stop_text (Refused n)) air report
-  LeavesOf script (Disagrees n kept found) = LeavesAll script (Disagreed n kept found) (stop_text (Differs n kept found)) air report
-  LeavesOf script (PastLimit Input) = LeavesAll script TooLong (stop_text (Read Overlong)) air report
-  LeavesOf script (ReadFault Input) = LeavesAll script Unread (stop_text (Read Failed)) air report
-  LeavesOf script (WriteFault Air) = LeavesCut script (stop_text OnAir) air report
-  LeavesOf script (WriteFault Report) = LeavesUnreported script air report
-  LeavesOf script status = Unit {0}
 
   air_of : (mux : Mux) (journal : List Entry) → AirOn mux [] journal [] air → AirOf mux journal air.old air.new
   air_of mux journal a = record { cycles = a.cycles; is_air = a.is_air; made = a.made; bytes = a.bytes }
@@ -87,20 +68,18 @@ module _ (air report : ReportTaken) where
     all = whole_journal script
 
     -- a fault ended it after its commands
-    stopped : (stop : Stop) (status : Status) → fault_lines status ≡ fault_line (fault_text status) → StoppedOn false mux [] [] air report (played_behind mux [] ahead) stop status
-        → LeavesAll script stop (fault_text status) air report
-    stopped stop status line on =
+    stopped : (status : Status) → StoppedOn false mux [] [] air report (played_behind mux [] ahead) status → LeavesAll script air report status
+    stopped status on =
         let air_is = air_of mux all on.air_is in
         record {
           stopped = on.stopped;
           air_is = air_is;
           sent = sends.all air_is;
-          report_is = subst (λ (l : List ℕ). Reported report (l ++ fault_line (fault_text status))) (text_is mux all on.air_is.cycles on.air_is.is_air)
-              (subst (λ (l : List ℕ). Reported report (new_text mux all on.air_is.cycles ++ l)) line on.report_is);
+          report_is = subst (λ (l : List ℕ). Reported report (l ++ fault_lines status)) (text_is mux all on.air_is.cycles on.air_is.is_air) on.report_is;
         }
 
     -- its cycle was cut
-    cut : CutOn false mux [] [] air report (played_behind mux [] ahead) → LeavesCut script (stop_text OnAir) air report
+    cut : CutOn false mux [] [] air report (played_behind mux [] ahead) → LeavesCut script air report
     cut on =
         let journal = first_journal on.k script in
         let air_is = front_of mux journal on.air_is in
@@ -108,10 +87,10 @@ module _ (air report : ReportTaken) where
           k = on.k;
           air_is = air_is;
           sent = sends.cut on.k air_is;
-          report_is = subst (λ (l : List ℕ). Reported report (l ++ fault_line (stop_text OnAir))) (text_is mux journal (on.air_is.whole ++ on.air_is.cut ∷ []) on.air_is.is_air) on.report_is;
+          report_is = subst (λ (l : List ℕ). Reported report (l ++ fault_lines (WriteFault Air))) (text_is mux journal (on.air_is.whole ++ on.air_is.cut ∷ []) on.air_is.is_air) on.report_is;
         }
 
-    described_leaves : (status : Status) → IsOfPlay status → LeavesBehind false mux [] [] air report ahead status → LeavesOf script status
+    described_leaves : (status : Status) → IsOfPlay status → LeavesBehind false mux [] [] air report ahead status → LeavesOf script air report status
     described_leaves Done known (text, went, took) =
         let air_is = air_of mux all went.air_is in
         record {
@@ -128,40 +107,28 @@ module _ (air report : ReportTaken) where
           sent = sends.all air_is;
           report_is = subst (λ (l : List ℕ). AppendsFront report.old report.new l) (went.text_is ∙ text_is mux all went.air_is.cycles went.air_is.is_air) took;
         }
-    described_leaves (BadScript n) known on = stopped (NoCommand n) (BadScript n) refl on
-    described_leaves (Disagrees n kept found) known on = stopped (Disagreed n kept found) (Disagrees n kept found) refl on
-    described_leaves (PastLimit Input) known on = stopped TooLong (PastLimit Input) refl on
-    described_leaves (ReadFault Input) known on = stopped Unread (ReadFault Input) refl on
     described_leaves (WriteFault Air) known on = cut on
-    described_leaves (PastLimit (Feed f)) known on = absurd known
-    described_leaves (PastLimit Recording) known on = absurd known
-    described_leaves (ReadFault (Feed f)) known on = absurd known
+    described_leaves (BadScript n) known on = stopped (BadScript n) on
+    described_leaves (Disagrees n kept found) known on = stopped (Disagrees n kept found) on
+    described_leaves (PastLimit Input) known on = stopped (PastLimit Input) on
+    described_leaves (ReadFault Input) known on = stopped (ReadFault Input) on
+    described_leaves (OpenFault n) known on = absurd known
     described_leaves (ReadFault Recording) known on = absurd known
-    described_leaves (BadMux fault) known on = absurd on
     described_leaves Memory known on = tt
-    described_leaves other known on = absurd known
+    described_leaves other known on = absurd on
 
   -- of one whose multiplex is not
-  idle_leaves : (stop : Stop) (status : Status) → fault_lines status ≡ fault_line (fault_text status) → Nothing air report status → LeavesAll (no_mux stop) stop (fault_text status) air report
-  idle_leaves stop status line (took, said) = record {
-    stopped = refl;
-    air_is = took;
-    sent = took;
-    report_is = subst (λ (l : List ℕ). Reported report l) line said;
-  }
+  idle_leaves : (stop : Stop) (status : Status) → status ≡ script_status stop → Nothing air report status → LeavesAll (no_mux stop) air report status
+  idle_leaves stop status is (took, said) = record { stopped = is; air_is = took; sent = took; report_is = said }
 
-  leaves_by : (found : Found Description) (status : Status) → IsOfPlay status → Sends (script_with found) → LeavesBy (Nothing air report) (λ mux. LeavesBehind false mux [] [] air report) found status → LeavesOf (script_with found) status
+  leaves_by : (found : Found Description) (status : Status) → IsOfPlay status → Sends (script_with found) → LeavesBy (Nothing air report) (λ mux. LeavesBehind false mux [] [] air report) found status → LeavesOf (script_with found) air report status
   leaves_by (Came (Ok mux) ahead) status known sends on = described_leaves mux ahead sends status known on
   leaves_by (Came (Err fault) ahead) status known sends (is, idle) =
-      subst (LeavesOf (no_mux (NoMux fault))) (sym is) (idle_leaves (NoMux fault) (BadMux fault) refl (subst (Nothing air report) is idle))
-  leaves_by (Stopped lines.End) status known sends (is, idle) =
-      subst (LeavesOf (no_mux (NoMux (Missing End)))) (sym is) (idle_leaves (NoMux (Missing End)) (BadMux (Missing End)) refl (subst (Nothing air report) is idle))
-  leaves_by (Stopped (lines.NoCommand n)) status known sends (is, idle) =
-      subst (LeavesOf (no_mux (NoMux (Missing End)))) (sym is) (idle_leaves (NoMux (Missing End)) (BadMux (Missing End)) refl (subst (Nothing air report) is idle))
-  leaves_by (Stopped lines.TooLong) status known sends (is, idle) =
-      subst (LeavesOf (no_mux TooLong)) (sym is) (idle_leaves TooLong (PastLimit Input) refl (subst (Nothing air report) is idle))
+      subst (LeavesOf (no_mux (NoMux fault)) air report) (sym is) (idle_leaves (NoMux fault) (BadMux fault) refl (subst (Nothing air report) is idle))
   leaves_by (Stopped lines.Unread) status known sends (is, idle) =
-      subst (LeavesOf (no_mux Unread)) (sym is) (idle_leaves Unread (ReadFault Input) refl (subst (Nothing air report) is idle))
+      subst (LeavesOf (no_mux Unread) air report) (sym is) (idle_leaves Unread (ReadFault Input) refl (subst (Nothing air report) is idle))
+  leaves_by (Stopped stop) status known sends (is, idle) =
+      subst (LeavesOf (no_mux (short_of stop)) air report) (sym is) (idle_leaves (short_of stop) (script_status (short_of stop)) refl (subst (Nothing air report) is idle))
 
   sends_in : (limit : ℕ) (text : List ℕ) → Sends (script_within limit text)
   sends_in limit text = record { all = text_sent limit text air; cut = λ k is. cut_sent (lines_left limit text).0 (tail_in limit text) air k is }
@@ -178,18 +145,7 @@ module _ (air report : ReportTaken) where
     leaves = leaves_by (described_taken over.taken) (ReadFault Input) known (sends_taken over.taken) over.leaves;
   }
   text_leaves limit text left Memory known over = tt
-  text_leaves limit text left Done known over = leaves_by (described_within limit text) Done known (sends_in limit text) over
-  text_leaves limit text left (BadMux fault) known over = leaves_by (described_within limit text) (BadMux fault) known (sends_in limit text) over
-  text_leaves limit text left (BadScript n) known over = leaves_by (described_within limit text) (BadScript n) known (sends_in limit text) over
-  text_leaves limit text left (Disagrees n kept found) known over = leaves_by (described_within limit text) (Disagrees n kept found) known (sends_in limit text) over
-  text_leaves limit text left (PastLimit Input) known over = leaves_by (described_within limit text) (PastLimit Input) known (sends_in limit text) over
-  text_leaves limit text left (PastLimit (Feed f)) known over = absurd known
-  text_leaves limit text left (PastLimit Recording) known over = absurd known
-  text_leaves limit text left (ReadFault (Feed f)) known over = absurd known
-  text_leaves limit text left (ReadFault Recording) known over = absurd known
-  text_leaves limit text left (WriteFault Air) known over = leaves_by (described_within limit text) (WriteFault Air) known (sends_in limit text) over
-  text_leaves limit text left (WriteFault Report) known over = leaves_by (described_within limit text) (WriteFault Report) known (sends_in limit text) over
-  text_leaves limit text left other known over = absurd known
+  text_leaves limit text left other known over = leaves_by (described_within limit text) other known (sends_in limit text) over
 
 pub play_run : (limit : ℕ) (input : SourceGave) (air report : ReportTaken) (status : Status) → NewRun limit false input air report status → PlayRunWithin limit input air report status
 play_run limit input air report status run = record {

@@ -24,18 +24,17 @@ use Rattle.mux_config.proofs.Reading.{fault_read, mux_read, read_stopped}
 use Rattle.journal_model.specs.Steps.{Command}
 use Rattle.desk_checkpoint.specs.declared.start.Start.{Start}
 use Rattle.epg_report.specs.declared.status.Status.{Status}
-use Rattle.epg_report.specs.declared.status.Status.TheVariants.{BadCheckpoint, BadMux, Memory, OpenFault, ReadFault, TooLong as PastLimit}
-use Rattle.epg_report.specs.declared.status.Origin.TheVariants.{Input, Feed, Recording}
+use Rattle.epg_report.specs.declared.status.Status.TheVariants.{BadMux, Memory, ReadFault}
+use Rattle.epg_report.specs.declared.status.Origin.TheVariants.{Input}
 use Rattle.epg_play.specs.declared.stop.PlayStop.{PlayStop}
-use Rattle.epg_play.specs.declared.stop.PlayStop.TheVariants.{NoMux as Undescribed, NoCommand as Refused, Disagrees as Differs, Read, Air as OnAir, Memory as NoMemory}
-use Rattle.epg_play.specs.Leaves.{mux_stop}
-use Rattle.epg_play.specs.Leaves.{status_for}
+use Rattle.epg_play.specs.declared.stop.PlayStop.TheVariants.{Read, Memory as NoMemory}
+use Rattle.epg_play.specs.Leaves.{met_by, mux_stop, status_for}
 use Rattle.epg_play.specs.Played.{DeskDid, RestDid, RestTaken, course}
 use Rattle.epg_play.specs.Script.{Stop}
 use Rattle.epg_play.proofs.RunFacts.{bytes_left}
 use Rattle.epg_play.specs.declared.played.Played.{Played}
 use Rattle.epg_play.specs.Beginning.{IsNotBegun}
-use Rattle.epg_play.specs.Courses.{CourseBehind, HasPlayedOn, IsPlayed, met_by}
+use Rattle.epg_play.specs.Courses.{CourseBehind, HasPlayedOn, IsPlayed}
 use Rattle.epg_play.specs.Over.{LeavesBy, LeavesOver, described_within}
 
 -- ---- a reader that has read nothing of a text of which so many bytes may be taken
@@ -88,11 +87,6 @@ module _ {S : Type 0} (limit : ℕ) (left : S → Option (List ℕ)) (source : S
   taken_by r e = subst (RestTaken start.shift left mid new start.desk on.left.now) e p.stops.1
 
   by : (r : Result (Unit {0}) PlayStop) → on.stop ≡ r → LeavesOver limit Idle B text (left new.source) (met_by r)
-  by (Ok u) e = whole (Ok u) e (did_by (Ok u) e)
-  by (Err (Undescribed fault)) e = absurd (did_by (Err (Undescribed fault)) e)
-  by (Err (Refused n)) e = whole (Err (Refused n)) e (did_by (Err (Refused n)) e)
-  by (Err (Differs n kept found)) e = whole (Err (Differs n kept found)) e (did_by (Err (Differs n kept found)) e)
-  by (Err (Read Overlong)) e = whole (Err (Read Overlong)) e (did_by (Err (Read Overlong)) e)
   by (Err (Read Failed)) e =
       let t = taken_by (Err (Read Failed)) e in
       let both : WereWhole left (fresh_to limit source) new (came.looked.lines ++ t.lines) = whole_more left (fresh_to limit source) mid new came.looked.lines t.lines came.looked.handed t.unended t.whole in
@@ -105,10 +99,10 @@ module _ {S : Type 0} (limit : ℕ) (left : S → Option (List ℕ)) (source : S
         text_is = b.1;
         left_is = b.2;
         leaves = subst (λ (found : Found Description). LeavesBy Idle B found (ReadFault Input)) (sym is)
-            (subst (B mux lines_are) (met_as (Err (Read Failed)) e) (wrap lines_are (course_by lines_are (Err (Read Failed)) e (t.stop, t.did))));
+            (subst (B mux lines_are) (met_as (Err (Read Failed)) e) (wrap lines_are (course_by lines_are (Err (Read Failed)) e t.did)));
       }
-  by (Err OnAir) e = whole (Err OnAir) e (did_by (Err OnAir) e)
   by (Err NoMemory) e = tt
+  by r e = whole r e (did_by r e)
 
   pub played_over : LeavesOver limit Idle B text (left new.source) played.met
   played_over = subst (LeavesOver limit Idle B text (left new.source)) (sym on.met) (by on.stop refl)
@@ -117,24 +111,16 @@ module _ {S : Type 0} (limit : ℕ) (left : S → Option (List ℕ)) (source : S
 pub refused_over : {S : Type 0} (limit : ℕ) (left : S → Option (List ℕ)) (source : S) (mid : Reading S) (text : List ℕ) (after : Option (List ℕ)) (mux : Mux)
     (d : LeavesAhead left description_ahead (Came (Ok mux)) (fresh_to limit source) mid text) (Idle : Status → Type 0) (B : Mux → Ahead → Status → Type 0) (met : Status)
     → IsNotBegun met → B mux (ahead mid d.rest) met → LeavesOver limit Idle B text after met
-refused_over limit left source mid text after mux d Idle B (OpenFault n) known b = subst (λ (found : Found Description). LeavesBy Idle B found (OpenFault n)) (sym (described_first limit source text ∙ d.reads)) b
-refused_over limit left source mid text after mux d Idle B (BadCheckpoint n) known b = subst (λ (found : Found Description). LeavesBy Idle B found (BadCheckpoint n)) (sym (described_first limit source text ∙ d.reads)) b
-refused_over limit left source mid text after mux d Idle B (PastLimit origin) known b = subst (λ (found : Found Description). LeavesBy Idle B found (PastLimit origin)) (sym (described_first limit source text ∙ d.reads)) b
-refused_over limit left source mid text after mux d Idle B (ReadFault Recording) known b = subst (λ (found : Found Description). LeavesBy Idle B found (ReadFault Recording)) (sym (described_first limit source text ∙ d.reads)) b
 refused_over limit left source mid text after mux d Idle B (ReadFault Input) known b = absurd known
-refused_over limit left source mid text after mux d Idle B (ReadFault (Feed f)) known b = absurd known
 refused_over limit left source mid text after mux d Idle B Memory known b = tt
-refused_over limit left source mid text after mux d Idle B other known b = absurd known
+refused_over limit left source mid text after mux d Idle B other known b = subst (λ (found : Found Description). LeavesBy Idle B found other) (sym (described_first limit source text ∙ d.reads)) b
 
 -- ---- where none is
 
 fault_over : (Idle : Status → Type 0) (B : Mux → Ahead → Status → Type 0) (found : Found Description) (fault : MuxFault) → fault_in found ≡ Some fault → Idle (BadMux fault) → LeavesBy Idle B found (BadMux fault)
-fault_over Idle B (Came (Ok mux) ls) fault e idle = cc e
 fault_over Idle B (Came (Err here) ls) fault e idle = (let same : here ≡ fault = cc e in (ap BadMux (sym same), idle))
 fault_over Idle B (Stopped (lines.NoCommand n)) fault e idle = (let same : Missing End ≡ fault = cc e in (ap BadMux (sym same), idle))
-fault_over Idle B (Stopped lines.End) fault e idle = cc e
-fault_over Idle B (Stopped lines.TooLong) fault e idle = cc e
-fault_over Idle B (Stopped lines.Unread) fault e idle = cc e
+fault_over Idle B other fault e idle = cc e
 
 pub undescribed_over : {S : Type 0} (limit : ℕ) (left : S → Option (List ℕ)) (faults : S → ℕ) (alike : S → S → Type 0) (old new : Reading S) (source : S) (text : List ℕ) (stop : MuxStop) (Idle : Status → Type 0) (B : Mux → Ahead → Status → Type 0)
     → old ≡ fresh_to limit source → left source ≡ Some text → ReadMux left faults alike old new (Err stop) → Idle (status_for (mux_stop stop)) → LeavesOver limit Idle B text (left new.source) (status_for (mux_stop stop))

@@ -1,5 +1,5 @@
 -- A report tells its journal, its line on the bit rate, and how it ends.
-use Rattle.std.proofs.Common.{◌≡◌, ◌∙◌, ◌==◌, ◌++◌, ◌∷◌, ◌+◌, ◌/◌, ◌%◌, ℕ, zero, suc, Bool, true, false, List, [], refl, sym, ap, subst, inl, inr, ◌⊎◌, arith, append_assoc}
+use Rattle.std.proofs.Common.{◌≡◌, ◌∙◌, ◌==◌, ◌++◌, ◌∷◌, ◌+◌, ◌/◌, ◌%◌, ℕ, zero, suc, Bool, true, false, List, [], refl, sym, ap, subst, inl, inr, ◌⊎◌, arith, append-nil, append_assoc}
 use Rattle.std.specs.Prelude.{Option, Some, None, codes, decimal, not, nat_lt}
 use Rattle.std.specs.List.{list_all}
 use Rattle.std.specs.Fmt.{digits, digits_onto, digit_glyph}
@@ -16,7 +16,7 @@ use Rattle.cycle_player.specs.Tally.{Tallied, least_rate}
 use Rattle.cycle_player.specs.Tallies.{tally_of}
 use Rattle.epg_report.specs.Rates.{kept_text, needed_text, rate_line}
 use Rattle.epg_play.specs.declared.stop.PlayStop.{PlayStop}
-use Rattle.epg_play.specs.Leaves.{ending_text, rates_for}
+use Rattle.epg_play.specs.Leaves.{ending_text, rates_for, report_text}
 use Rattle.epg_play.specs.Reports.{ReportsTellJournals}
 
 -- ---- a line ends at the first LF
@@ -151,3 +151,10 @@ reports_tell_journals one other a b s t h k e =
     let journals = journals_end a b (us ++ ending_text s) (vs ++ ending_text t) h k (no_entry_with us s (rates_shape one a)) (no_entry_with vs t (rates_shape other b)) texts in
     let rest = parts us vs s t (rates_shape one a) (rates_shape other b) journals.1 in
     record { journal = journals.0; rates = rest.0; ending = rest.1 }
+
+-- without a bit rate it has no line on one
+pub plain_report : (mux : Mux) (journal : List Entry) → mux.rate ≡ None
+    → report_text (Some mux) journal ≡ journal_text journal
+plain_report mux journal e =
+    ap (λ (r : Option ℕ). journal_text journal ++ rate_line r (tally_of r (airings mux journal))) e
+    ∙ append-nil (journal_text journal)

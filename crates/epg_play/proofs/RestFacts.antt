@@ -1,9 +1,10 @@
--- A script that is played at a desk which keeps no journal: how far it has come, and why it stops.
-use Rattle.std.proofs.Common.{◌≡◌, ℕ, Bool, true, List, [], ◌++◌, append-nil, sym, ap, ◌∙◌, subst, inl, inr}
+-- A script that is played at a desk which keeps no journal: how far it has come, what the player has counted, and why it stops.
+use Rattle.std.proofs.Common.{◌≡◌, ◌≤◌, ℕ, Bool, true, false, List, [], ◌++◌, append-nil, sym, ap, ◌∙◌, subst, inl, inr, ◌⊎◌}
 use Rattle.std.specs.Prelude.{Option, None, Ok, Err, OnOk, Result}
 use Rattle.std.specs.declared.alloc.AllocError.{AllocError}
 use Rattle.std.proofs.lemmas.List.{append_cancel_left}
 use Rattle.si_causes.specs.Reading.{Reading}
+use Rattle.si_causes.proofs.CauseFacts.{Rose-from}
 use Rattle.air_model.specs.Air.{Aired}
 use Rattle.cycle_player.specs.Sending.{AtEnd, Sending}
 use Rattle.mux_model.specs.declared.mux.Mux.{Mux}
@@ -14,19 +15,72 @@ use Rattle.desk_core.specs.Journal.{Legal}
 use Rattle.desk_core.specs.Lean.{IsLean, StandsFor, stood_for}
 use Rattle.desk_checkpoint.specs.Text.{start_text}
 use Rattle.epg_report.specs.declared.status.Status.TheVariants.{Done}
-use Rattle.journal_air.specs.OnAir.{AreAlike, HasAired, SentCycle, airing_on, AiredTo as OnAirTo}
-use Rattle.journal_air.specs.Tallied.{CountedCycle}
+use Rattle.journal_air.specs.OnAir.{AreAlike, HasAired, IsPlayerOf, SentCycle, airing_on, AiredTo as OnAirTo, HasAirCause as HasSendCause}
+use Rattle.journal_air.specs.Tallied.{CountedCycle, HasTallied, TalliedTo as CountedTo}
 use Rattle.journal_air.specs.declared.send.SendStop.{SendStop}
-use Rattle.journal_air.proofs.SwapFacts.{after_other_aired, after_swap_aired}
+use Rattle.journal_air.specs.declared.send.SendStop.TheVariants as send
+use Rattle.journal_air.proofs.SwapFacts.{after_other_aired, after_swap_aired, player_kept}
+use Rattle.journal_air.proofs.Tallied.{other_tallied, swap_tallied}
 use Rattle.epg_play.specs.declared.desk.ScriptDesk.{ScriptDesk}
 use Rattle.epg_play.specs.declared.item.ItemDone.TheVariants as item
 use Rattle.epg_play.specs.declared.played.Course.{Course}
 use Rattle.epg_play.specs.declared.stop.PlayStop.{PlayStop}
+use Rattle.epg_play.specs.declared.stop.PlayStop.TheVariants.{Air, Memory}
 use Rattle.epg_play.specs.Courses.{Appended, IsCourseText, PlaysRest}
-use Rattle.epg_play.specs.Items.{IsAt, ItemDid, ItemLeft, Stands, Stays, Went}
-use Rattle.epg_play.specs.Played.{send_stop}
-use Rattle.epg_play.proofs.CourseFacts.{cut_aired, cut_stop, stopped_aired, went_none}
-use Rattle.epg_play.proofs.TallyFacts.{HasKept, cut_tallied, other_kept, stopped_tallied, swap_kept, swap_player}
+use Rattle.epg_play.specs.Items.{IsAt, ItemDid, ItemLeft, Stands, Stays, StepAt, Went}
+use Rattle.epg_play.specs.Played.{AiredTo, HasAirCause, HasReadCause, IsItemStop, IsStopBehind, TalliedTo, send_stop}
+use Rattle.epg_play.proofs.CourseFacts.{cut_stop, went_none}
+
+-- ---- a stop, and the status that it leads to
+
+pub sent_behind : (stop : SendStop) → IsStopBehind (send_stop stop)
+sent_behind send.Air = tt
+sent_behind send.Memory = tt
+
+pub sent_no_read : (before now : ℕ) (stop : SendStop) → HasReadCause {T = Unit {0}} before now (Err (send_stop stop))
+sent_no_read before now send.Air = tt
+sent_no_read before now send.Memory = tt
+
+pub sent_caused : (before mid now : ℕ) (stop : SendStop) → before ≤ mid → HasSendCause mid now (Err stop) → HasAirCause {T = Unit {0}} before now (Err (send_stop stop))
+sent_caused before mid now send.Air le cause = Rose-from before mid now le cause
+sent_caused before mid now send.Memory le cause = tt
+
+-- ---- what is on air, and what the player has counted
+
+-- an item that stops leaves it
+stopped_aired : (earlier : List Aired) (desk : DeskState) (player : Sending) (before now : Option (List ℕ)) (stop : PlayStop) → IsItemStop stop → HasAired earlier desk player before now
+    → AiredTo {T = Unit {0}} earlier desk player before now (Err stop)
+stopped_aired earlier desk player before now Air is has = absurd is
+stopped_aired earlier desk player before now Memory is has = tt
+stopped_aired earlier desk player before now other is has = has
+
+cut_aired : (earlier : List Aired) (desk : DeskState) (player : Sending) (before now : Option (List ℕ)) (stop : SendStop) → OnAirTo earlier desk player before now (Err stop)
+    → AiredTo {T = Unit {0}} earlier desk player before now (Err (send_stop stop))
+cut_aired earlier desk player before now send.Air has = has
+cut_aired earlier desk player before now send.Memory has = tt
+
+-- a player of the desk's multiplex, whose tally is that of the desk's journal
+abbrev pub HasKept : DeskState → Sending → Type 0
+HasKept desk player = IsPlayerOf desk.mux player × HasTallied desk player
+
+other_kept : (old desk : DeskState) (player : Sending)
+    → StepAt false old desk ⊎ (desk ≡ old) → Legal old.mux old.entries
+    → HasKept old player → HasKept desk player
+other_kept old desk player (inl step) legal kept = (
+  subst (λ (m : Mux). IsPlayerOf m player) (sym (ap (λ (d : DeskState). d.mux) step.did)) kept.0,
+  other_tallied old desk step.who step.step player step.did legal step.is kept.1,
+)
+other_kept old desk player (inr same) legal kept =
+    subst (λ (d : DeskState). HasKept d player) (sym same) kept
+
+cut_tallied : (desk : DeskState) (player : Sending) (stop : SendStop)
+    → CountedTo desk player (Err stop) → TalliedTo {T = Unit {0}} desk player (Err (send_stop stop))
+cut_tallied desk player send.Air has = has
+cut_tallied desk player send.Memory has = tt
+
+stopped_tallied : (desk : DeskState) (player : Sending) (stop : PlayStop) → HasTallied desk player → TalliedTo {T = Unit {0}} desk player (Err stop)
+stopped_tallied desk player Memory has = tt
+stopped_tallied desk player other has = has
 
 -- ---- a desk without its journal, as the desk that it stands for
 
@@ -99,8 +153,8 @@ module _ {S : Type 0} (left : S → Option (List ℕ)) (first : Reading S) (befo
         aired = λ earlier w has. swap_aired (Ok tt) sends earlier w (g.aired earlier w has);
         kept = λ kept.
             let old_kept = g.kept kept in (
-              swap_player g.now i.now player after i.did sends.alike.form sends.alike.rate old_kept.0,
-              swap_kept g.now i.now player after (Ok tt) i.did legal old_kept (counted_at (Ok tt) sends),
+              subst (λ (m : Mux). IsPlayerOf m after) (sym (ap (λ (d : DeskState). d.mux) i.did.did)) (player_kept g.now.mux player after sends.alike old_kept.0),
+              swap_tallied g.now i.now i.did.who i.did.step player after (Ok tt) i.did.did legal i.did.is old_kept.0 old_kept.1 (counted_at (Ok tt) sends),
             );
       }
 
@@ -110,9 +164,10 @@ module _ {S : Type 0} (left : S → Option (List ℕ)) (first : Reading S) (befo
         record {
           now = i.now;
           at = i.at;
-          aired = λ earlier w has. cut_aired next.shift earlier i.now after w now stop (swap_aired (Err stop) sends earlier w (g.aired earlier w has));
+          aired = λ earlier w has. cut_aired earlier i.now after w now stop (swap_aired (Err stop) sends earlier w (g.aired earlier w has));
           tallied = λ is has.
-              cut_tallied i.now after stop (swap_kept g.now i.now player after (Err stop) i.did legal (g.kept (is, has)) (counted_at (Err stop) sends));
+              let kept = g.kept (is, has) in
+              cut_tallied i.now after stop (swap_tallied g.now i.now i.did.who i.did.step player after (Err stop) i.did.did legal i.did.is kept.0 kept.1 (counted_at (Err stop) sends));
         },
         cut_stop next.shift left first new before i.now next.last stop i.goes_on,
       )
@@ -130,13 +185,13 @@ module _ {S : Type 0} (left : S → Option (List ℕ)) (first : Reading S) (befo
     )
 
     -- or it stops
-    pub rest_stopped : (stop : PlayStop) → ItemLeft left first new before g.now next (Err stop) → PlaysRest left first new before start air_before air (course_with next player) (Err stop)
-    rest_stopped stop i = (
+    pub rest_stopped : (stop : PlayStop) → IsItemStop stop → ItemLeft left first new before g.now next (Err stop) → PlaysRest left first new before start air_before air (course_with next player) (Err stop)
+    rest_stopped stop is i = (
       record {
         now = i.now;
         at = i.at;
-        aired = λ earlier w has. stopped_aired next.shift earlier g.now i.now player w air stop i.did (g.aired earlier w has);
-        tallied = λ is has. stopped_tallied g.now i.now player stop i.did (g.kept (is, has)).1;
+        aired = λ earlier w has. stopped_aired earlier i.now player w air stop is (subst (λ (d : DeskState). HasAired earlier d player w air) (sym i.did) (g.aired earlier w has));
+        tallied = λ of has. stopped_tallied i.now player stop (subst (λ (d : DeskState). HasKept d player) (sym i.did) (g.kept (of, has))).1;
       },
       i.goes_on,
     )

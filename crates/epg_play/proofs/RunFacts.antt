@@ -1,6 +1,6 @@
 -- What the script of a text is, and what was played of it.
 use Rattle.std.proofs.Common.{◌≡◌, ℕ, ◌+◌, List, [], ◌∷◌, ◌++◌, length, refl, sym, ap, ◌∙◌, subst, inl, inr, ◌⊎◌, zero-add}
-use Rattle.std.specs.Prelude.{Option, Some, None, Ok, Err, Result, true, false}
+use Rattle.std.specs.Prelude.{Option, Some, None, Ok, Err, Result, false}
 use Rattle.std.specs.Io.KnownBytes.{Consumes}
 use Rattle.si_causes.specs.Reading.{Reading, fresh as unread}
 use Rattle.si_causes.proofs.TextFacts.{fresh_text}
@@ -25,18 +25,18 @@ use Rattle.desk_core.specs.Journal.{journal_after}
 use Rattle.journal_model.specs.Steps.{Command}
 use Rattle.desk_core.specs.Desks.{DeskState, fresh}
 use Rattle.epg_play.specs.declared.stop.PlayStop.{PlayStop}
-use Rattle.epg_play.specs.declared.stop.PlayStop.TheVariants.{NoMux as Undescribed, NoCommand as Refused, Disagrees as Differs, Read, Air as OnAir, Memory as NoMemory}
+use Rattle.epg_play.specs.declared.stop.PlayStop.TheVariants.{NoMux as Undescribed, Read, Air as OnAir, Memory as NoMemory}
 use Rattle.epg_report.specs.declared.status.Status.{Status}
-use Rattle.epg_report.specs.declared.status.Status.TheVariants.{Done, BadScript, Disagrees, BadMux, TooLong as PastLimit, Memory}
-use Rattle.epg_report.specs.declared.status.Origin.TheVariants.{Input, Feed, Recording}
-use Rattle.epg_play.specs.Script.{Script, Stop, commands_of, first_difference, played_items, stop_of, up_to, Ended, NoMux, NoCommand, Disagreed, TooLong, Unread, no_mux, script_in, script_taken, script_with, script_within, with_commands}
+use Rattle.epg_report.specs.declared.status.Status.TheVariants.{Done, Memory, ReadFault}
+use Rattle.epg_report.specs.declared.status.Origin.TheVariants.{Input}
+use Rattle.epg_play.specs.Script.{Script, Stop, commands_of, first_difference, played_items, stop_of, up_to, Ended, NoMux, TooLong, Unread, no_mux, script_in, script_taken, script_with, script_within, with_commands}
 use Rattle.journal_model.specs.declared.step.Outcome.{Outcome}
 use Rattle.journal_model.specs.declared.step.Outcome.TheVariants.{Edited, Ticked, Late, Published, Swapped}
 use Rattle.journal_model.specs.Raising.{all_raised, raised}
 use Rattle.script_lines.specs.Script.{asked_by, items_ahead}
 use Rattle.epg_play.specs.Items.{Stops, Went, course_at}
-use Rattle.epg_play.specs.Played.{RestDid, course, desk_after}
-use Rattle.epg_play.specs.Leaves.{IsAired, IsSent, Completes, whole_journal}
+use Rattle.epg_play.specs.Played.{DeskDid, RestDid, course, desk_after}
+use Rattle.epg_play.specs.Leaves.{IsAired, IsSent, Completes, met_by, script_status, whole_journal}
 use Rattle.epg_report.specs.Told.{ReportTaken}
 use Rattle.epg_play.proofs.CourseFacts.{Rest}
 use Rattle.epg_play.proofs.SentFacts.{whole_sent}
@@ -64,12 +64,11 @@ plain_course mux lines =
     let asked = asked_by (items_ahead false lines).0 in
     ap (λ (l : List Entry). up_to (first_difference asked l) (commands_of asked) (stop_of (items_ahead false lines).1)) (none_raised (journal_after mux [] (commands_of asked)))
 
-pub plain_rest : (mux : Mux) (lines : Ahead) (desk : DeskState) (r : Result (Unit {0}) PlayStop) → RestDid (course 0 mux [] None lines) (fresh mux) desk r → RestDid (plain mux lines) (fresh mux) desk r
+plain_rest : (mux : Mux) (lines : Ahead) (desk : DeskState) (r : Result (Unit {0}) PlayStop) → RestDid (course 0 mux [] None lines) (fresh mux) desk r → RestDid (plain mux lines) (fresh mux) desk r
 plain_rest mux lines desk r did = subst (λ (c : Rest). RestDid c (fresh mux) desk r) (plain_course mux lines) did
 
-plain_did : (mux : Mux) (lines : Ahead) (stop : Stop) (desk : DeskState) → ((course 0 mux [] None lines).1 ≡ stop) × (desk ≡ desk_after (fresh mux) (course 0 mux [] None lines).0)
-    → ((plain mux lines).1 ≡ stop) × (desk ≡ desk_after (fresh mux) (plain mux lines).0)
-plain_did mux lines stop desk did = subst (λ (c : Rest). (c.1 ≡ stop) × (desk ≡ desk_after (fresh mux) c.0)) (plain_course mux lines) did
+plain_did : (mux : Mux) (lines : Ahead) (desk : DeskState) (r : Result (Unit {0}) PlayStop) → DeskDid (course 0 mux [] None lines) (fresh mux) desk r → DeskDid (plain mux lines) (fresh mux) desk r
+plain_did mux lines desk r did = subst (λ (c : Rest). DeskDid c (fresh mux) desk r) (plain_course mux lines) did
 
 -- ---- the script of a text, by what reading its description told
 
@@ -77,12 +76,9 @@ abbrev Known : Type 0
 Known = Option (List ℕ)
 
 faulty_script : (found : Found Description) (fault : MuxFault) → fault_in found ≡ Some fault → script_with found ≡ no_mux (NoMux fault)
-faulty_script (Came (Ok mux) behind) fault e = cc e
 faulty_script (Came (Err here) behind) fault e = (let same : here ≡ fault = cc e in ap (λ f. no_mux (NoMux f)) same)
 faulty_script (Stopped (lines.NoCommand n)) fault e = (let same : Missing End ≡ fault = cc e in ap (λ f. no_mux (NoMux f)) same)
-faulty_script (Stopped lines.End) fault e = cc e
-faulty_script (Stopped lines.TooLong) fault e = cc e
-faulty_script (Stopped lines.Unread) fault e = cc e
+faulty_script other fault e = cc e
 
 -- of known bytes some were taken, and the others are left
 pub bytes_left : (left : Known) (text taken : List ℕ) → Consumes (Some text) left taken → (behind : List ℕ) × (text ≡ taken ++ behind) × (left ≡ Some behind)
@@ -102,27 +98,19 @@ text_sent limit text air is = whole_sent (lines_left limit text).0 (tail_in limi
 pub whole : (stop : Stop) (status : Status) → stop ≡ Ended → Completes stop status → (status ≡ Done) ⊎ (status ≡ Memory)
 whole stop Done e h = inl refl
 whole stop Memory e h = inr refl
-whole stop (BadMux fault) e h = cc
-whole stop (BadScript n) e h = cc
-whole stop (Disagrees n kept found) e h = cc
-whole stop (PastLimit Input) e h = cc
-whole stop (PastLimit (Feed f)) e h = absurd h
-whole stop (PastLimit Recording) e h = absurd h
-whole stop other e h = absurd h
-
-pub true-false : true ≡ false → ⊥
-true-false e = cc
+whole stop (ReadFault Input) e h = absurd h
+whole stop other e h = cc (h ∙ ap script_status e)
 
 -- ---- for other commands over the same script
 
--- A script stops so, and its commands were done at a desk of its multiplex.
-pub record IsPlayed (script : Script) (stop : Stop) (mux : Mux) (desk : DeskState) : Type 0 where
-  pub stopped : script.stop ≡ stop
+-- A script leads to this status, and its commands were done at a desk of its multiplex.
+pub record IsPlayed (script : Script) (status : Status) (mux : Mux) (desk : DeskState) : Type 0 where
+  pub stopped : status ≡ script_status script.stop
   pub described : script.mux ≡ Some mux
   pub did : desk ≡ desk_after (fresh mux) script.commands
 
-rest_is : (script : Script) (stop : Stop) (mux : Mux) (rest : Rest) (desk : DeskState) → script ≡ with_commands mux rest → (rest.1 ≡ stop) × (desk ≡ desk_after (fresh mux) rest.0) → IsPlayed script stop mux desk
-rest_is script stop mux rest desk e did = subst (λ (s : Script). IsPlayed s stop mux desk) (sym e) (record { stopped = did.0; described = refl; did = did.1 })
+rest_is : (script : Script) (status : Status) (mux : Mux) (rest : Rest) (desk : DeskState) → script ≡ with_commands mux rest → (status ≡ script_status rest.1) × (desk ≡ desk_after (fresh mux) rest.0) → IsPlayed script status mux desk
+rest_is script status mux rest desk e did = subst (λ (s : Script). IsPlayed s status mux desk) (sym e) (record { stopped = did.0; described = refl; did = did.1 })
 
 -- and the same of the bytes that were taken, where a read failed
 pub record IsPlayedTaken (text : List ℕ) (left : Known) (mux : Mux) (desk : DeskState) : Type 0 where
@@ -130,18 +118,16 @@ pub record IsPlayedTaken (text : List ℕ) (left : Known) (mux : Mux) (desk : De
   pub behind : List ℕ
   pub text_is : text ≡ taken ++ behind
   pub left_is : left ≡ Some behind
-  pub played : IsPlayed (script_taken taken) Unread mux desk
+  pub played : IsPlayed (script_taken taken) (ReadFault Input) mux desk
 
 -- what the script of a text is, by why the rest behind its description was not done on
 abbrev pub PlayedBy : List ℕ → Known → Mux → DeskState → Result (Unit {0}) PlayStop → Type 0
-PlayedBy text left mux desk (Ok u) = IsPlayed (script_in text) Ended mux desk
-PlayedBy text left mux desk (Err (Refused n)) = IsPlayed (script_in text) (NoCommand n) mux desk
-PlayedBy text left mux desk (Err (Differs n kept found)) = IsPlayed (script_in text) (Disagreed n kept found) mux desk
-PlayedBy text left mux desk (Err (Read Overlong)) = IsPlayed (script_in text) TooLong mux desk
 PlayedBy text left mux desk (Err (Read Failed)) = IsPlayedTaken text left mux desk
-PlayedBy text left mux desk (Err stop) = Unit {0}
+PlayedBy text left mux desk (Err OnAir) = Unit {0}
+PlayedBy text left mux desk (Err NoMemory) = Unit {0}
+PlayedBy text left mux desk result = IsPlayed (script_in text) (met_by result) mux desk
 
-taken_by : (text taken : List ℕ) (old left : Known) (mux : Mux) (desk : DeskState) → old ≡ Some text → Consumes old left taken → IsPlayed (script_taken taken) Unread mux desk → IsPlayedTaken text left mux desk
+taken_by : (text taken : List ℕ) (old left : Known) (mux : Mux) (desk : DeskState) → old ≡ Some text → Consumes old left taken → IsPlayed (script_taken taken) (ReadFault Input) mux desk → IsPlayedTaken text left mux desk
 taken_by text taken old left mux desk told gave played =
     let b = bytes_left left text taken (subst (λ (o : Known). Consumes o left taken) told gave) in
     record { taken = taken; behind = b.0; text_is = b.1; left_is = b.2; played = played }
@@ -149,20 +135,17 @@ taken_by text taken old left mux desk told gave played =
 pub rest_played : {S : Type 0} (left : S → Known) (source : S) (mid new : Reading S) (text : List ℕ) (mux : Mux) (desk : DeskState) (r : Result (Unit {0}) PlayStop) → left source ≡ Some text
     → LeavesAhead left description_ahead (Came (Ok mux)) (unread source) mid text → Passes left description_ahead (Came (Ok mux)) (unread source) mid → Stops 0 left mid new (fresh mux) desk r
     → PlayedBy text (left new.source) mux desk r
-rest_played left source mid new text mux desk (Ok u) told d came stops = rest_is (script_in text) Ended mux (plain mux (ahead mid d.rest)) desk (ap script_with d.reads) (plain_rest mux (ahead mid d.rest) desk (Ok u) (stops.0 d.rest d.told))
-rest_played left source mid new text mux desk (Err (Undescribed fault)) told d came stops = tt
-rest_played left source mid new text mux desk (Err (Refused n)) told d came stops = rest_is (script_in text) (NoCommand n) mux (plain mux (ahead mid d.rest)) desk (ap script_with d.reads) (plain_rest mux (ahead mid d.rest) desk (Err (Refused n)) (stops.0 d.rest d.told))
-rest_played left source mid new text mux desk (Err (Differs n kept found)) told d came stops =
-    rest_is (script_in text) (Disagreed n kept found) mux (plain mux (ahead mid d.rest)) desk (ap script_with d.reads) (plain_rest mux (ahead mid d.rest) desk (Err (Differs n kept found)) (stops.0 d.rest d.told))
-rest_played left source mid new text mux desk (Err (Read Overlong)) told d came stops = rest_is (script_in text) TooLong mux (plain mux (ahead mid d.rest)) desk (ap script_with d.reads) (plain_rest mux (ahead mid d.rest) desk (Err (Read Overlong)) (stops.0 d.rest d.told))
+rest_played left source mid new text mux desk (Err (Undescribed fault)) told d came stops = absurd (stops.0 d.rest d.told)
 rest_played left source mid new text mux desk (Err (Read Failed)) told d came stops =
     let p = stops.1 in
     let both : WereWhole left (unread source) new (came.looked.lines ++ p.lines) = whole_more left (unread source) mid new came.looked.lines p.lines came.looked.handed p.unended p.whole in
     let script : script_taken both.more ≡ with_commands mux (plain mux (ahead_with mid p.lines Breaks)) =
     ap (λ l. script_with (description_ahead (ahead_with (unread source) l Breaks))) both.whole ∙ ap script_with (came.reads p.lines Breaks) in
-    taken_by text both.more (left source) (left new.source) mux desk told both.gave (rest_is (script_taken both.more) Unread mux (plain mux (ahead_with mid p.lines Breaks)) desk script (plain_did mux (ahead_with mid p.lines Breaks) Unread desk (p.stop, p.did)))
+    taken_by text both.more (left source) (left new.source) mux desk told both.gave (rest_is (script_taken both.more) (ReadFault Input) mux (plain mux (ahead_with mid p.lines Breaks)) desk script (plain_did mux (ahead_with mid p.lines Breaks) desk (Err (Read Failed)) p.did))
 rest_played left source mid new text mux desk (Err OnAir) told d came stops = tt
 rest_played left source mid new text mux desk (Err NoMemory) told d came stops = tt
+rest_played left source mid new text mux desk r told d came stops =
+    rest_is (script_in text) (met_by r) mux (plain mux (ahead mid d.rest)) desk (ap script_with d.reads) (plain_rest mux (ahead mid d.rest) desk r (stops.0 d.rest d.told))
 
 -- Some of its commands were done, the first.
 pub record IsPlayedTo (script : Script) (mux : Mux) (desk : DeskState) : Type 0 where

@@ -14,7 +14,7 @@ use Rattle.journal_text.specs.Entries.{journal_text}
 use Rattle.epg_play.specs.Script.{Script, Ended, script_in}
 use Rattle.epg_play.specs.Leaves.{whole_journal}
 
--- The text describes this multiplex, with an LF behind its `end`, and nothing else.
+-- The text describes this multiplex, with an LF after its `end`, and nothing else.
 pub record Describes (text : List ℕ) (mux : Mux) : Type 0 where
   pub front : List ℕ
   pub closed : text ≡ front ++ 10 ∷ []

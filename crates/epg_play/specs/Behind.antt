@@ -1,4 +1,4 @@
--- What a run leaves that goes on behind a journal and an air of it.
+-- What a run leaves that goes on after a journal and an air of it.
 use Rattle.std.specs.Prelude.{◌≡◌, ◌<◌, ◌^◌, ℕ, List, [], ◌∷◌, ◌++◌, length, map, take, Bool, true, false, Some}
 use Rattle.std.specs.Io.KnownBytes.{Appends}
 use Rattle.si_causes.specs.Causes.{AppendsFront}
@@ -23,25 +23,26 @@ use Rattle.epg_report.specs.declared.status.Outlet.TheVariants.{Air, Report}
 use Rattle.epg_report.specs.Rates.{rate_line}
 use Rattle.epg_report.specs.Texts.{fault_lines}
 use Rattle.epg_report.specs.Told.{ReportTaken, Reported}
-use Rattle.epg_play.specs.Script.{Stop, Ended, NoCommand, Disagreed, TooLong, Unread, played_items}
+use Rattle.epg_play.specs.Leaves.{script_status}
+use Rattle.epg_play.specs.Script.{Stop, Ended, played_items}
 use Rattle.epg_play.specs.NeverRefused.{HasShortMoment}
 use Rattle.epg_play.specs.Checkpointed.{HasRun, IsCheckpoint}
 use Rattle.cycle_player.specs.Airs.{AreMadeAt, IsAirAt}
 use Rattle.cycle_player.specs.Tallies.{tally_of}
 
--- of the script ahead, what is played behind a journal, and why no more is
+-- of the script ahead, what is played after a journal, and why no more is
 abbrev pub played_behind : Mux → List Entry → Ahead → List Command × Stop
 played_behind mux journal lines = played_items mux journal (items_ahead false lines)
 
--- Behind earlier cycles the air took these bytes. Where the earlier cycles are made as those of a
+-- After earlier cycles the air took these bytes. Where the earlier cycles are made as those of a
 -- player are, all bytes together are an air of the journal or the first bytes of one, and that is
 -- coherent, exact and spaced, or keeps time at a bit rate. Without earlier cycles they are the
--- bytes taken alone.
+-- only the bytes taken.
 abbrev pub IsSentBehind : Mux → List Entry → List Aired → List ℕ → Type 0
 IsSentBehind mux journal earlier taken =
     AreMadeAt mux.rate [] earlier → SentAir mux journal (Some []) (Some (air_bytes earlier ++ taken))
 
--- Behind earlier cycles the air took cycles that make with them an air of the journal with more
+-- After earlier cycles the air took cycles that make with them an air of the journal with more
 -- entries; without a bit rate neighbours of one PID share packets. So who hears both parts hears
 -- one airing at a time, and is shown the guide of what stays on air.
 pub record AirOn (mux : Mux) (journal more : List Entry) (earlier : List Aired) (air_took : ReportTaken) : Type 0 where
@@ -100,9 +101,9 @@ module _ (fold : Bool) (mux : Mux) (journal : List Entry) (earlier : List Aired)
         → HasShortMoment mux.rate (earlier ++ air_is.cycles)
         → HasRun mux (journal ++ journal_after mux journal rest.0) (earlier ++ air_is.cycles)
 
-  -- a fault ended the script behind its commands
-  pub record StoppedOn (rest : List Command × Stop) (stop : Stop) (status : Status) : Type 0 where
-    pub stopped : rest.1 ≡ stop
+  -- the fault to which the script leads ended it after its commands
+  pub record StoppedOn (rest : List Command × Stop) (status : Status) : Type 0 where
+    pub stopped : status ≡ script_status rest.1
     pub legal : Legal mux (journal ++ journal_after mux journal rest.0)
     pub air_is : AirOn mux journal (journal_after mux journal rest.0) earlier air_took
     pub report_is : Reported report
@@ -119,13 +120,13 @@ module _ (fold : Bool) (mux : Mux) (journal : List Entry) (earlier : List Aired)
         (air_is.whole ++ air_is.cut ∷ [])
         ++ fault_lines (WriteFault Air))
 
-  -- What a run leaves with each status, of what is ahead of it behind the description of its multiplex.
+  -- What a run leaves with each status, of what is ahead of it after the description of its multiplex.
   abbrev pub LeavesBehind : Ahead → Status → Type 0
   LeavesBehind lines Done = (text : List ℕ) × WentOn (played_behind mux journal lines) text × Appends report.old report.new text
-  LeavesBehind lines (BadScript n) = StoppedOn (played_behind mux journal lines) (NoCommand n) (BadScript n)
-  LeavesBehind lines (Disagrees n kept found) = StoppedOn (played_behind mux journal lines) (Disagreed n kept found) (Disagrees n kept found)
-  LeavesBehind lines (PastLimit Input) = StoppedOn (played_behind mux journal lines) TooLong (PastLimit Input)
-  LeavesBehind lines (ReadFault Input) = StoppedOn (played_behind mux journal lines) Unread (ReadFault Input)
+  LeavesBehind lines (BadScript n) = StoppedOn (played_behind mux journal lines) (BadScript n)
+  LeavesBehind lines (Disagrees n kept found) = StoppedOn (played_behind mux journal lines) (Disagrees n kept found)
+  LeavesBehind lines (PastLimit Input) = StoppedOn (played_behind mux journal lines) (PastLimit Input)
+  LeavesBehind lines (ReadFault Input) = StoppedOn (played_behind mux journal lines) (ReadFault Input)
   LeavesBehind lines (WriteFault Air) = CutOn (played_behind mux journal lines)
   LeavesBehind lines (WriteFault Report) = (text : List ℕ) × WentOn (played_behind mux journal lines) text × AppendsFront report.old report.new text
   LeavesBehind lines (OpenFault n) = Unit {0}

@@ -18,15 +18,15 @@ use Rattle.epg_report.specs.declared.status.Outlet.TheVariants.{Air, Report}
 use Rattle.epg_report.specs.Asked.{AtPath, HasAskedFor}
 use Rattle.epg_report.specs.Texts.{fault_lines}
 use Rattle.epg_report.specs.Told.{OpenerAsked, ReportTaken, Reported, SourceGave, asked, gave, told}
-use Rattle.epg_play.specs.Leaves.{Completes, IsOfPlay}
+use Rattle.epg_play.specs.Leaves.{Completes, IsOfPlay, script_status}
 use Rattle.epg_play.specs.Played.{course}
-use Rattle.epg_play.specs.Script.{Stop, Ended, Unread, script_within}
+use Rattle.epg_play.specs.Script.{Stop, Ended, script_within}
 use Rattle.epg_play.specs.Checkpointed.{HasRun, IsCheckpoint, checkpoint_limit, checkpoint_of}
 use Rattle.epg_play.specs.Over.{LeavesOver, described_within}
 use Rattle.epg_play.specs.Beginning.{IsOfResume}
 use Rattle.epg_play.specs.Behind.{LeavesBehind}
 
--- no step is done: the air takes nothing, and the report is the line of the fault alone
+-- no step is done: the air takes nothing, and the report is only the line of the fault
 abbrev pub Nothing : ReportTaken → ReportTaken → Status → Type 0
 Nothing air report status = Appends air.old air.new [] × Reported report (fault_lines status)
 
@@ -34,7 +34,7 @@ Nothing air report status = Appends air.old air.new [] × Reported report (fault
 
 -- A run of `play --fold` whose script may have so many bytes: what its input gave, what its air and its report took, and its status.
 pub record FoldRunWithin (limit : ℕ) (input : SourceGave) (air report : ReportTaken) (status : Status) : Type 0 where
-  -- what is left with each status, behind the journal without an entry; with Done the report is the checkpoint
+  -- what is left with each status, after a journal without an entry; with Done the report is the checkpoint
   pub leaves : (text : List ℕ) → input.old ≡ Some text
       → LeavesOver limit (Nothing air report) (λ mux. LeavesBehind true mux [] [] air report) text input.new status
   -- where neither the input nor a sink fails, the script decides the status, but for want of memory
@@ -63,8 +63,8 @@ course_on cp lines = course (shift_of cp.count) cp.desk.mux cp.desk.entries None
 abbrev pub Tells : Stop → Status → Type 0
 Tells stop (WriteFault Air) = Unit {0}
 Tells stop (WriteFault Report) = stop ≡ Ended
-Tells stop (ReadFault Input) = stop ≡ Unread
-Tells stop status = Completes stop status
+Tells stop Memory = Unit {0}
+Tells stop status = status ≡ script_status stop
 
 -- Whatever the file holds: it is no checkpoint, and nothing is done; or the script on it was played, as the status tells.
 abbrev pub Begins : List ℕ → Files → (Status → Type 0) → Mux → Ahead → Status → Type 0
@@ -80,7 +80,7 @@ Begins path files Idle mux lines status =
 abbrev pub NothingAsked : OpenerAsked → ReportTaken → ReportTaken → Status → Type 0
 NothingAsked opener air report status = (opener.tried_new ≡ opener.tried_old) × Nothing air report status
 
--- What a run leaves behind the description of its multiplex that goes on from the file at this path.
+-- What a run leaves, after the description of its multiplex, that goes on from the file at this path.
 pub record Resumes (path : List ℕ) (files : Files) (fold : Bool) (opener : OpenerAsked) (air report : ReportTaken) (mux : Mux) (lines : Ahead) (status : Status) : Type 0 where
   -- the opener was asked for the path
   pub asked : Tries opener.tried_old opener.tried_new path
@@ -111,7 +111,7 @@ pub record ResumeRunWithin (limit : ℕ) (path : List ℕ) (fold : Bool) (opener
       → (cp : Checkpoint) → checkpoint_of mux bytes ≡ Ok cp → Completes (course_on cp lines).1 status
   -- no other status comes
   pub known : IsOfResume status
-  -- the opener was asked for the path, behind the description of the multiplex
+  -- the opener was asked for the path, after the description of the multiplex
   pub asked_for : HasAskedFor path opener.tried_old opener.tried_new status
   -- with Done the input was read to its end
   pub end : status ≡ Done → IsAtEnd input.new
@@ -128,7 +128,7 @@ ResumeRun = ResumeRunWithin text_limit
 
 -- ---- of a call
 
--- So a call ran with this input, this air and this report: of each what tells its bytes and its faults, and how it was before and behind.
+-- So a call ran with this input, this air and this report: of each what tells its bytes and its faults, and how it was before and after.
 abbrev pub FoldRanWithin : {S A R : Type 0} → ℕ → (S → Option (List ℕ)) → (S → ℕ) → S → S → (A → Option (List ℕ)) → (A → ℕ) → A → A
     → (R → Option (List ℕ)) → (R → ℕ) → R → R → Status → Type 0
 FoldRanWithin limit left read_faults input input_then sent air_faults air air_then taken report_faults report report_then status =

@@ -25,18 +25,13 @@ use Rattle.epg_report.specs.Rates.{rate_line}
 use Rattle.epg_report.specs.Texts.{fault_lines}
 use Rattle.epg_report.specs.Told.{OpenerAsked, ReportTaken}
 use Rattle.epg_play.specs.declared.stop.PlayStop.{PlayStop}
-use Rattle.epg_play.specs.Leaves.{IsOfPlay, status_for}
+use Rattle.epg_play.specs.Leaves.{IsOfPlay, met_by}
 use Rattle.epg_play.specs.Items.{IsAt, IsReady, Stands, Stops}
 use Rattle.epg_play.specs.Played.{AiredTo, DeskDid, TalliedTo, course}
 use Rattle.epg_play.specs.Over.{LeavesOver}
 use Rattle.epg_play.specs.Beginning.{BeginsAt, IsNew, IsNotBegun, IsOfResume}
 use Rattle.epg_play.specs.declared.played.Course.{Course}
 use Rattle.epg_play.specs.declared.played.Played.{Played}
-
--- the status of a script that was played so
-abbrev pub met_by : Result (Unit {0}) PlayStop → Status
-met_by (Ok u) = Done
-met_by (Err stop) = status_for stop
 
 -- Nothing was played.
 pub record NotPlayed (before now : Option (List ℕ)) (played : Played) : Type 0 where

@@ -13,8 +13,8 @@ use Rattle.epg_play.specs.Script.{script_of_lines}
 use Rattle.cycle_player.specs.Airs.{IsAirAt}
 
 -- What `play` sends, `listen` hears: of an air of a journal of a script, which are its first commands or all, as a recording, each
--- piece is a packet, and of each key the completions are just its version changes along the airing list. The script is one of lines,
--- whatever stands behind them: so of an input's text, or of the lines that were whole where a read failed.
+-- piece is a packet, and of each key the completions are exactly its version changes along the airing list. The script is one of lines,
+-- whatever follows them: so of an input's text, or of the lines that were whole where a read failed.
 abbrev pub PlayIsHeard : Type 0
 PlayIsHeard =
     (lines : List (List ℕ)) (tail : Tail) (mux : Mux) (k : ℕ) (xs : List Aired) → (script_of_lines lines tail).mux ≡ Some mux

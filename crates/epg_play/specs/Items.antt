@@ -19,7 +19,6 @@ use Rattle.epg_play.specs.declared.desk.ScriptDesk.{ScriptDesk}
 use Rattle.epg_play.specs.declared.item.ItemDone.{ItemDone}
 use Rattle.epg_play.specs.declared.item.ItemDone.TheVariants as item
 use Rattle.epg_play.specs.declared.stop.PlayStop.{PlayStop}
-use Rattle.epg_play.specs.declared.stop.PlayStop.TheVariants.{Air, Memory, NoMux}
 use Rattle.epg_play.specs.Script.{Stop}
 use Rattle.epg_play.specs.Played.{RestDid, RestTaken, course, desk_after}
 
@@ -71,15 +70,11 @@ pub record StepAt (swap : Bool) (old new : DeskState) : Type 0 where
   pub is : is_swap step ≡ swap
   pub did : new ≡ and_step old who step
 
--- what an item does at a desk; a stop but want of memory leaves the desk as it was
+-- what an item does at a desk; the end of the script and a stop leave the desk as it was
 abbrev pub ItemDid : DeskState → DeskState → Result ItemDone PlayStop → Type 0
 ItemDid old new (Ok item.Swap) = StepAt true old new
 ItemDid old new (Ok item.Other) = StepAt false old new ⊎ (new ≡ old)
-ItemDid old new (Ok item.End) = new ≡ old
-ItemDid old new (Err Memory) = Unit {0}
-ItemDid old new (Err Air) = ⊥
-ItemDid old new (Err (NoMux fault)) = ⊥
-ItemDid old new (Err stop) = new ≡ old
+ItemDid old new other = new ≡ old
 
 -- with each item but the last less of the script is left
 abbrev pub Falls : {S : Type 0} → Reading S → Reading S → Result ItemDone PlayStop → Type 0
@@ -91,7 +86,7 @@ Falls old new (Err stop) = Unit {0}
 abbrev pub course_at : ℕ → DeskState → Option Outcome → Ahead → List Command × Stop
 course_at shift desk made lines = course shift desk.mux desk.entries made lines
 
--- Of what was ahead these commands were done, and this is what is played behind them.
+-- Of what was ahead these commands were done, and this is what is played after them.
 abbrev pub AreDone : ℕ → DeskState → DeskState → Option Outcome → Ahead → Ahead → List Command → Type 0
 AreDone shift old desk made lines behind done =
     course_at shift old None lines ≡ (done ++ (course_at shift desk made behind).0, (course_at shift desk made behind).1)

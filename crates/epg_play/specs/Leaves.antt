@@ -1,5 +1,5 @@
 -- What a run of `play` leaves, for each status, and all that it promises.
-use Rattle.std.specs.Prelude.{◌≡◌, ◌⊎◌, ℕ, List, [], ◌∷◌, ◌++◌, take, Option, Some, None}
+use Rattle.std.specs.Prelude.{◌≡◌, ◌⊎◌, ℕ, List, [], ◌∷◌, ◌++◌, take, Option, Some, None, Ok, Err, Result}
 use Rattle.std.specs.Io.KnownBytes.{Appends, IsAtEnd}
 use Rattle.si_causes.specs.Causes.{Rose, AppendsFront}
 use Rattle.si_causes.specs.Text.{text_limit}
@@ -22,7 +22,7 @@ use Rattle.epg_report.specs.declared.status.Origin.TheVariants.{Input}
 use Rattle.epg_report.specs.declared.status.Outlet.TheVariants.{Air, Report}
 use Rattle.epg_play.specs.Script.{Script, Stop, Ended, NoMux, NoCommand, Disagreed, TooLong, Unread, script_taken, script_within}
 use Rattle.epg_report.specs.Rates.{rate_lines}
-use Rattle.epg_report.specs.Texts.{fault_line, fault_text}
+use Rattle.epg_report.specs.Texts.{fault_line, fault_lines, fault_text}
 use Rattle.epg_report.specs.Told.{ReportTaken, Reported, SourceGave, gave, told}
 
 -- ---- journals of a script
@@ -90,20 +90,30 @@ status_for (Read Failed) = ReadFault Input
 status_for OnAir = WriteFault Air
 status_for NoMemory = Memory
 
+-- the status of a script that was played so
+abbrev pub met_by : Result (Unit {0}) PlayStop → Status
+met_by (Ok u) = Done
+met_by (Err stop) = status_for stop
+
+-- the status to which a script leads, by why no more of it is played
+abbrev pub script_status : Stop → Status
+script_status Ended = Done
+script_status (NoMux fault) = BadMux fault
+script_status (NoCommand n) = BadScript n
+script_status (Disagreed n kept found) = Disagrees n kept found
+script_status TooLong = PastLimit Input
+script_status Unread = ReadFault Input
+
 -- the stop of a call that reads the description
 abbrev pub mux_stop : MuxStop → PlayStop
 mux_stop (mux.Fault fault) = Undescribed fault
 mux_stop (mux.Read stop) = Read stop
 mux_stop mux.Memory = NoMemory
 
--- what the line of a stop says
-abbrev pub stop_text : PlayStop → List ℕ
-stop_text stop = fault_text (status_for stop)
-
 -- the fault line of a run, where there is one
 abbrev pub ending_text : Option PlayStop → List ℕ
 ending_text None = []
-ending_text (Some stop) = fault_line (stop_text stop)
+ending_text (Some stop) = fault_line (fault_text (status_for stop))
 
 -- ---- what is left
 
@@ -114,13 +124,13 @@ pub record LeavesDone (script : Script) (air report : ReportTaken) : Type 0 wher
   pub sent : IsSent script.mux (whole_journal script) air
   pub report_is : Appends report.old report.new (whole_report script)
 
--- with a fault after all commands of the script: the air is that of their journal, and the report
--- is the journal's and the fault line
-pub record LeavesAll (script : Script) (stop : Stop) (fault : List ℕ) (air report : ReportTaken) : Type 0 where
-  pub stopped : script.stop ≡ stop
+-- with the fault to which the script leads after all its commands: the air is that of their journal,
+-- and the report is the journal's and the fault line
+pub record LeavesAll (script : Script) (air report : ReportTaken) (status : Status) : Type 0 where
+  pub stopped : status ≡ script_status script.stop
   pub air_is : IsAired script.mux (whole_journal script) air
   pub sent : IsSent script.mux (whole_journal script) air
-  pub report_is : Reported report (whole_report script ++ fault_line fault)
+  pub report_is : Reported report (whole_report script ++ fault_lines status)
 
 -- With a failed read: these bytes were taken from the input, and the others are left. The commands are exactly those whose lines all
 -- ended in the bytes taken.
@@ -129,14 +139,14 @@ pub record LeavesUnread (text : List ℕ) (left : Option (List ℕ)) (air report
   pub behind : List ℕ
   pub text_is : text ≡ taken ++ behind
   pub left_is : left ≡ Some behind
-  pub leaves : LeavesAll (script_taken taken) Unread (stop_text (Read Failed)) air report
+  pub leaves : LeavesAll (script_taken taken) air report (ReadFault Input)
 
--- with a fault in the cycle of the last of the first k commands
-pub record LeavesCut (script : Script) (fault : List ℕ) (air report : ReportTaken) : Type 0 where
+-- with a fault of the air in the cycle of the last of the first k commands
+pub record LeavesCut (script : Script) (air report : ReportTaken) : Type 0 where
   pub k : ℕ
   pub air_is : IsAiredFront script.mux (first_journal k script) air
   pub sent : IsSent script.mux (first_journal k script) air
-  pub report_is : Reported report (first_report k script ++ fault_line fault)
+  pub report_is : Reported report (first_report k script ++ fault_lines (WriteFault Air))
 
 -- with a fault in the report of a whole script: a proper front of the journal's report
 pub record LeavesUnreported (script : Script) (air report : ReportTaken) : Type 0 where
@@ -145,19 +155,18 @@ pub record LeavesUnreported (script : Script) (air report : ReportTaken) : Type 
   pub sent : IsSent script.mux (whole_journal script) air
   pub report_is : AppendsFront report.old report.new (whole_report script)
 
--- What a run of `play` leaves with each status, of a text of which so many bytes may be taken, and of
--- what is left of it. No other status comes.
+-- What a run of `play` leaves of a script with each status. No other status comes, since a script leads to no other.
+abbrev pub LeavesOf : Script → ReportTaken → ReportTaken → Status → Type 0
+LeavesOf script air report Done = LeavesDone script air report
+LeavesOf script air report (WriteFault Air) = LeavesCut script air report
+LeavesOf script air report (WriteFault Report) = LeavesUnreported script air report
+LeavesOf script air report Memory = Unit {0}
+LeavesOf script air report status = LeavesAll script air report status
+
+-- and of a text of which so many bytes may be taken, and of what is left of it
 abbrev pub Leaves : ℕ → List ℕ → Option (List ℕ) → ReportTaken → ReportTaken → Status → Type 0
-Leaves limit text left air report Done = LeavesDone (script_within limit text) air report
-Leaves limit text left air report (BadMux fault) = LeavesAll (script_within limit text) (NoMux fault) (stop_text (Undescribed fault)) air report
-Leaves limit text left air report (BadScript n) = LeavesAll (script_within limit text) (NoCommand n) (stop_text (Refused n)) air report
-Leaves limit text left air report (Disagrees n kept found) = LeavesAll (script_within limit text) (Disagreed n kept found) (stop_text (Differs n kept found)) air report
-Leaves limit text left air report (PastLimit Input) = LeavesAll (script_within limit text) TooLong (stop_text (Read Overlong)) air report
 Leaves limit text left air report (ReadFault Input) = LeavesUnread text left air report
-Leaves limit text left air report (WriteFault Air) = LeavesCut (script_within limit text) (stop_text OnAir) air report
-Leaves limit text left air report (WriteFault Report) = LeavesUnreported (script_within limit text) air report
-Leaves limit text left air report Memory = Unit {0}
-Leaves limit text left air report status = ⊥
+Leaves limit text left air report status = LeavesOf (script_within limit text) air report status
 
 -- the statuses of `play`
 abbrev pub IsOfPlay : Status → Type 0
@@ -173,13 +182,9 @@ IsOfPlay status = ⊥
 
 -- What a run answers where neither the input nor a sink fails: the stop of the script decides, but for want of memory.
 abbrev pub Completes : Stop → Status → Type 0
-Completes stop Done = stop ≡ Ended
-Completes stop (BadMux fault) = stop ≡ NoMux fault
-Completes stop (BadScript n) = stop ≡ NoCommand n
-Completes stop (Disagrees n kept found) = stop ≡ Disagreed n kept found
-Completes stop (PastLimit Input) = stop ≡ TooLong
 Completes stop Memory = Unit {0}
-Completes stop status = ⊥
+Completes stop (ReadFault Input) = ⊥
+Completes stop status = status ≡ script_status stop
 
 -- A run of `play` whose script may have so many bytes: what its input gave, what its air and its report took, and its status.
 pub record PlayRunWithin (limit : ℕ) (input : SourceGave) (air report : ReportTaken) (status : Status) : Type 0 where
@@ -204,7 +209,7 @@ pub record PlayRunWithin (limit : ℕ) (input : SourceGave) (air report : Report
 abbrev pub PlayRun : SourceGave → ReportTaken → ReportTaken → Status → Type 0
 PlayRun = PlayRunWithin text_limit
 
--- So a call ran with this input, this air and this report: of each what tells its bytes and its faults, and how it was before and behind.
+-- So a call ran with this input, this air and this report: of each what tells its bytes and its faults, and how it was before and after.
 abbrev pub PlayRanWithin : {S A R : Type 0} → ℕ → (S → Option (List ℕ)) → (S → ℕ) → S → S → (A → Option (List ℕ)) → (A → ℕ) → A → A
     → (R → Option (List ℕ)) → (R → ℕ) → R → R → Status → Type 0
 PlayRanWithin limit left read_faults input input_then sent air_faults air air_then taken report_faults report report_then status =

@@ -59,7 +59,7 @@ HasShortMoment None xs = Unit {0}
 HasShortMoment (Some rate) xs = (clock_kept rate xs).moment < 10 ^ 18
 
 -- The text of the checkpoint of a journal, with what a player keeps that has handed out an air of its airings, is read as the
--- checkpoint, whatever stands behind its end.
+-- checkpoint, whatever follows its end.
 abbrev pub CheckpointsAreRead : Type 0
 CheckpointsAreRead =
     (mux : Mux) (journal : List Entry) (xs : List Aired)

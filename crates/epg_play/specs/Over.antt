@@ -1,28 +1,21 @@
 -- What a run leaves over the text of its input.
 use Rattle.std.specs.Prelude.{◌≡◌, ℕ, List, ◌++◌, Option, Some, Ok, Err}
 use Rattle.si_causes.specs.Text.{lines_left}
-use Rattle.input_lines.specs.Ahead.{Ahead, Came, Found, TooLong as Overlong, Unread as Broken, ahead_in}
-use Rattle.input_lines.specs.Ahead as reading
+use Rattle.input_lines.specs.Ahead.{Ahead, Came, Found, Stopped, ahead_in}
 use Rattle.mux_model.specs.declared.mux.Mux.{Mux}
-use Rattle.mux_config.specs.declared.fault.Word.TheVariants.{End}
-use Rattle.mux_config.specs.declared.fault.MuxFault.TheVariants.{Missing}
 use Rattle.mux_config.specs.Descriptions.{Description, description_ahead}
 use Rattle.mux_config.specs.Texts.{described_taken}
 use Rattle.epg_report.specs.declared.status.Status.{Status}
-use Rattle.epg_report.specs.declared.status.Status.TheVariants.{BadMux, Memory, ReadFault, TooLong as PastLimit}
+use Rattle.epg_report.specs.declared.status.Status.TheVariants.{BadMux, Memory, ReadFault}
 use Rattle.epg_report.specs.declared.status.Origin.TheVariants.{Input}
+use Rattle.epg_play.specs.Leaves.{script_status}
+use Rattle.epg_play.specs.Script.{short_of}
 
--- the status where the lines have neither a fault nor the end of the description
-abbrev pub short_status : reading.Stop → Status
-short_status Overlong = PastLimit Input
-short_status Broken = ReadFault Input
-short_status stop = BadMux (Missing End)
-
--- What a run leaves, by the description of its multiplex: behind one that is whole what `Behind` says, and else nothing.
+-- What a run leaves, by the description of its multiplex: after a whole one what `Behind` says, and else nothing.
 abbrev pub LeavesBy : (Status → Type 0) → (Mux → Ahead → Status → Type 0) → Found Description → Status → Type 0
 LeavesBy Idle Behind (Came (Ok mux) lines) status = Behind mux lines status
 LeavesBy Idle Behind (Came (Err fault) lines) status = (status ≡ BadMux fault) × Idle status
-LeavesBy Idle Behind (reading.Stopped stop) status = (status ≡ short_status stop) × Idle status
+LeavesBy Idle Behind (Stopped stop) status = (status ≡ script_status (short_of stop)) × Idle status
 
 -- A read failed: these bytes were taken from the input, and the others are left. The lines are those that were whole in the bytes taken.
 pub record LeavesTaken (Idle : Status → Type 0) (Behind : Mux → Ahead → Status → Type 0) (text : List ℕ) (left : Option (List ℕ)) : Type 0 where

@@ -1,9 +1,9 @@
 -- What playing the commands of a script leaves: the desk, and what the air took.
-use Rattle.std.specs.Prelude.{◌≡◌, ◌≤◌, ℕ, false, is_some, List, [], ◌++◌, take, Option, Some, None, Ok, Err, Result}
+use Rattle.std.specs.Prelude.{◌≡◌, ◌≤◌, ℕ, false, is_some, List, [], ◌++◌, take, Option, Some, None, Err, Result}
 use Rattle.std.specs.Io.KnownBytes.{IsAtEnd}
 use Rattle.si_causes.specs.Causes.{Rose}
 use Rattle.si_causes.specs.Reading.{Reading}
-use Rattle.si_causes.specs.declared.stop.ReadStop.TheVariants.{Failed, TooLong as Overlong}
+use Rattle.si_causes.specs.declared.stop.ReadStop.TheVariants.{Failed}
 use Rattle.input_lines.specs.Going.{WereWhole}
 use Rattle.air_model.specs.Air.{Aired}
 use Rattle.cycle_player.specs.Sending.{Sending}
@@ -27,7 +27,8 @@ use Rattle.journal_air.specs.declared.send.SendStop.{SendStop}
 use Rattle.journal_air.specs.declared.send.SendStop.TheVariants as send
 use Rattle.epg_play.specs.declared.stop.PlayStop.{PlayStop}
 use Rattle.epg_play.specs.declared.stop.PlayStop.TheVariants.{NoMux as Undescribed, NoCommand as Refused, Disagrees, Read, Air, Memory}
-use Rattle.epg_play.specs.Script.{Stop, Ended, NoCommand, Disagreed, TooLong, Unread, commands_of, difference, first_difference, stop_of, up_to}
+use Rattle.epg_play.specs.Leaves.{met_by, script_status}
+use Rattle.epg_play.specs.Script.{Stop, Disagreed, commands_of, difference, first_difference, stop_of, up_to}
 
 -- ---- one cycle
 
@@ -36,15 +37,11 @@ abbrev pub send_stop : SendStop → PlayStop
 send_stop send.Air = Air
 send_stop send.Memory = Memory
 
--- what the air has behind earlier cycles, once a script is played as far as this
+-- what the air has after earlier cycles, once a script is played as far as this
 abbrev pub AiredTo : {T : Type 0} → List Aired → DeskState → Sending → Option (List ℕ) → Option (List ℕ) → Result T PlayStop → Type 0
-AiredTo earlier desk player before now (Ok u) = HasAired earlier desk player before now
 AiredTo earlier desk player before now (Err Air) = HasAiredFront earlier desk before now
 AiredTo earlier desk player before now (Err Memory) = Unit {0}
-AiredTo earlier desk player before now (Err (Undescribed fault)) = HasAired earlier desk player before now
-AiredTo earlier desk player before now (Err (Refused n)) = HasAired earlier desk player before now
-AiredTo earlier desk player before now (Err (Disagrees n kept found)) = HasAired earlier desk player before now
-AiredTo earlier desk player before now (Err (Read stop)) = HasAired earlier desk player before now
+AiredTo earlier desk player before now result = HasAired earlier desk player before now
 
 -- the player's tally is that of the desk's journal, once a script is played as far as this
 abbrev pub TalliedTo : {T : Type 0} → DeskState → Sending → Result T PlayStop → Type 0
@@ -67,7 +64,7 @@ pub record HasRead {S T : Type 0} (left : S → Option (List ℕ)) (faults : S �
   pub later : faults old ≤ faults new
   pub same : alike old new
 
--- a stop of a script that goes on behind its description: no fault of that, and the outcomes of a disagreement can be written
+-- a stop of a script that goes on after its description: no fault of that, and the outcomes of a disagreement can be written
 abbrev pub IsStopBehind : PlayStop → Type 0
 IsStopBehind (Undescribed fault) = ⊥
 IsStopBehind (Disagrees n kept found) = IsInWindow kept × IsInWindow found
@@ -86,7 +83,7 @@ read_stop edits.Memory = Memory
 
 -- ---- the rest of a script
 
--- what is kept behind an outcome that was made just before, where it is another
+-- what is kept after an outcome that was made just before, where it is another
 abbrev pub late_difference : Option Outcome → Option (ℕ × Outcome) → Option Stop
 late_difference None kept = None
 late_difference (Some found) kept = difference kept found
@@ -106,7 +103,7 @@ abbrev pub played_raised : ℕ → Mux → List Entry → List Asked → Stop �
 played_raised shift mux before asked stop =
     up_to (first_difference asked (all_raised shift (journal_after mux before (commands_of asked)))) (commands_of asked) stop
 
--- Of these items, what is played behind these entries; `made` is the raised outcome of the last, where it was made just before.
+-- Of these items, what is played after these entries; `made` is the raised outcome of the last, where it was made just before.
 abbrev pub course_of : ℕ → Mux → List Entry → Option Outcome → List ScriptItem × reading.Stop → List Command × Stop
 course_of shift mux before made items =
     unless_late (late_difference made (kept_first items.0)) (played_raised shift mux before (asked_by items.0) (stop_of items.1))
@@ -119,16 +116,12 @@ course shift mux before made lines = course_of shift mux before made (items_ahea
 abbrev pub desk_after : DeskState → List Command → DeskState
 desk_after desk commands = record { mux = desk.mux; entries = desk.entries ++ journal_after desk.mux desk.entries commands }
 
--- What playing commands does to a desk, by why no more are played. Where a read failed, they are those of the lines that were whole.
+-- What playing commands does to a desk, by how it ends. Where a read failed, they are those of the lines that were whole.
 abbrev pub DeskDid : List Command × Stop → DeskState → DeskState → Result (Unit {0}) PlayStop → Type 0
-DeskDid rest old new (Ok u) = (rest.1 ≡ Ended) × (new ≡ desk_after old rest.0)
 DeskDid rest old new (Err (Undescribed fault)) = ⊥
-DeskDid rest old new (Err (Refused n)) = (rest.1 ≡ NoCommand n) × (new ≡ desk_after old rest.0)
-DeskDid rest old new (Err (Disagrees n kept found)) = (rest.1 ≡ Disagreed n kept found) × (new ≡ desk_after old rest.0)
-DeskDid rest old new (Err (Read Overlong)) = (rest.1 ≡ TooLong) × (new ≡ desk_after old rest.0)
-DeskDid rest old new (Err (Read Failed)) = (rest.1 ≡ Unread) × (new ≡ desk_after old rest.0)
 DeskDid rest old new (Err Air) = (k : ℕ) × (new ≡ desk_after old (take k rest.0))
 DeskDid rest old new (Err Memory) = Unit {0}
+DeskDid rest old new result = (met_by result ≡ script_status rest.1) × (new ≡ desk_after old rest.0)
 
 -- so do those of all that is ahead, but where a read failed
 abbrev pub RestDid : List Command × Stop → DeskState → DeskState → Result (Unit {0}) PlayStop → Type 0
@@ -140,8 +133,7 @@ pub record PlayedWhole {S : Type 0} (shift : ℕ) (left : S → Option (List ℕ
   pub lines : List (List ℕ)
   pub whole : WereWhole left old new lines
   pub unended : old.ended ≡ false
-  pub stop : (course shift desk.mux desk.entries None (ahead_with old lines Breaks)).1 ≡ Unread
-  pub did : after ≡ desk_after desk (course shift desk.mux desk.entries None (ahead_with old lines Breaks)).0
+  pub did : DeskDid (course shift desk.mux desk.entries None (ahead_with old lines Breaks)) desk after (Err (Read Failed))
 
 -- what playing the rest of a script tells of the bytes that the source gave
 abbrev pub RestTaken : {S : Type 0} → ℕ → (S → Option (List ℕ)) → Reading S → Reading S → DeskState → DeskState → Result (Unit {0}) PlayStop → Type 0

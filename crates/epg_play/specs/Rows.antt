@@ -30,7 +30,7 @@ row_swop : script_in (row_block ++ codes "feed,1,name,101,Acme,News\npublish\nsw
 unfolding items_ahead fields_compute control_of edit_head
 row_swop = refl
 
--- a kept outcome is compared as a value; a step behind one that differs is not played
+-- a kept outcome is compared as a value; a step after one that differs is not played
 row_kept : script_in (row_block ++ codes "publish\n=,published,001\n3,publish\n=,published,1\nswap\n")
     ≡ record { mux = Some row_mux; commands = (0, Publish) ∷ (3, Publish) ∷ []; stop = Disagreed 8 (Published 1) (Published 2) }
 unfolding items_ahead fields_compute control_of outcome_of_fields reply_of

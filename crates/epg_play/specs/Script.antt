@@ -1,4 +1,4 @@
--- The script of lines: the multiplex of their description, the commands behind it, and why no more is played.
+-- The script of lines: the multiplex of their description, the commands after it, and why no more is played.
 use Rattle.std.specs.Prelude.{ℕ, suc, ◌+◌, Bool, true, false, List, [], ◌∷◌, length, map, take, Option, Some, None, Ok, Err, if◌then◌else◌}
 use Rattle.si_causes.specs.Text.{lines_left, text_limit}
 use Rattle.input_lines.specs.Lines.{record_lines}
@@ -62,7 +62,7 @@ abbrev pub up_to : Option (ℕ × Stop) → List Command → Stop → List Comma
 up_to None commands stop = (commands, stop)
 up_to (Some found) commands stop = (take found.0 commands, found.1)
 
--- Of commands, each with the outcome that is kept behind it, those that are played behind these entries: all, or those up
+-- Of commands, each with the outcome that is kept after it, those that are played after these entries: all, or those up
 -- to the first whose outcome is not the one that is kept. And why no more are.
 abbrev pub played_after : Mux → List Entry → List Asked → Stop → List Command × Stop
 played_after mux before asked stop = up_to (first_difference asked (journal_after mux before (commands_of asked))) (commands_of asked) stop
@@ -92,13 +92,13 @@ short_of reading.TooLong = TooLong
 short_of reading.Unread = Unread
 short_of stop = NoMux (Missing word.End)
 
--- the script of a description, and of what is ahead behind its lines
+-- the script of a description, and of what is ahead after its lines
 abbrev pub script_with : Found Description → Script
 script_with (Came (Ok mux) behind) = with_commands mux (played_items mux [] (items_ahead false behind))
 script_with (Came (Err fault) behind) = no_mux (NoMux fault)
 script_with (Stopped stop) = no_mux (short_of stop)
 
--- the script of lines, and of what stands behind them
+-- the script of lines, and of what follows them
 abbrev pub script_of_lines : List (List ℕ) → Tail → Script
 script_of_lines lines tail = script_with (description_ahead (record { rows = record_lines 1 lines; tail = tail }))
 
@@ -119,6 +119,6 @@ script_within limit text = (let lines = lines_left limit text in script_of_lines
 abbrev pub script_in : List ℕ → Script
 script_in text = script_within text_limit text
 
--- the script of the lines that are whole in bytes, behind which a read failed
+-- the script of the lines that are whole in bytes, after which a read failed
 abbrev pub script_taken : List ℕ → Script
 script_taken bytes = script_of_lines (shown_whole bytes) Breaks

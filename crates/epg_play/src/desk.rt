@@ -37,7 +37,7 @@ impl ScriptDesk {
         }
     }
 
-    // Takes the memory for an entry, does its step, and says its outcome with the number of its publication raised.
+    // Takes the memory for an entry, does its step, and returns the outcome, with the number of its publication raised.
     fn prepare(&mut self, step: &Step) -> Result<Outcome, AllocError>
         requires ready { IsReady self.old }
         requires within { IsStepWithin step.now }
@@ -54,7 +54,7 @@ impl ScriptDesk {
         Ok(raise(outcome, self.shift))
     }
 
-    // Has an entry as the last one, and keeps it or not.
+    // Takes an entry: its outcome is that of the last command, and the entry is kept where entries are.
     fn keep(&mut self, entry: Entry)
         requires { vec_len self.old.made < vec_capacity self.old.made }
         ensures others { self.new
@@ -68,7 +68,7 @@ impl ScriptDesk {
         }
     }
 
-    // Does a command. Want of memory leaves the desk as it was.
+    // Does a command. Where memory runs out, the desk stays as it was.
     pub(crate) fn step(&mut self, who: u32, step: Step) -> Result<(), AllocError>
         requires ready { IsReady self.old }
         requires within { IsStepWithin step }

@@ -65,7 +65,7 @@ fn stop_of(stop: EditStop) -> PlayStop
 }
 
 /// Does the next item of a script at its desk: its step, or the comparison of the outcome that is kept with that of the step just before.
-/// It gives what the item did. Want of memory leaves the desk as it was.
+/// It gives what the item did. Where memory runs out, the desk stays as it was.
 ///
 /// `NoCommand`, `Disagrees`, `Read` and `Memory` say why the script is not played on, as [`crate::run_play`] does; no other stop comes.
 pub fn do_item<S: Source>(

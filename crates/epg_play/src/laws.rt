@@ -7,12 +7,12 @@ ghost use Rattle.epg_play.specs.Outcomes.{OutcomesAreCompared};
 ghost use Rattle.epg_play.specs.Reports.{PlainReportsAreJournals, ReportsTellJournals};
 
 /// What `play` sends, `listen` hears: where an air of a journal of a script's first commands, or of all, as `play` leaves one, is the
-/// recording, each piece of it is a packet, and of each key just its version changes along the airing list are reported, in order.
+/// recording, each piece of it is a packet, and of each key exactly its version changes along the airing list are reported, in order.
 pub fn play_is_heard()
     ensures { PlayIsHeard }
 {}
 
-/// A printed journal is a script: behind the description of its multiplex, the text of a legal journal whose entries can be read is
+/// A printed journal is a script: after the description of its multiplex, the text of a legal journal whose entries can be read is
 /// played to its end, and its journal is this journal again. An entry can be read where its lines have at most 16,384 bytes, and its
 /// numbers nine digits (`IsReadable` of `journal_text`).
 pub fn journals_play_again()

@@ -91,7 +91,7 @@ fn report_of(alloc: Global, played: &Played, fold: bool) -> Result<Vec<u8>, Allo
     Ok(text)
 }
 
-/// Reports what was played, and says how the run ends. A report that fails changes the status of a whole script alone.
+/// Reports what was played, and says how the run ends. A report that fails changes only the status of a whole script.
 pub(crate) fn finish<R: Sink>(alloc: Global, played: &Played, fold: bool, report: &mut R) -> Status
     requires course { IfSome played.now.course (IsCourse played.now.met) }
     requires said { CanBeSaid played.now.met }

@@ -6,9 +6,9 @@ ghost use Rattle.si_causes.specs.Reading.{fresh_to};
 ghost use Rattle.epg_report.specs.Asked.{HasAskedFor};
 ghost use Rattle.epg_report.specs.Texts.{CanBeSaid};
 ghost use Rattle.epg_report.specs.Told.{asked};
-ghost use Rattle.epg_play.specs.Courses.{HasMet, HasPlayedOn, IsCourse, IsMetBehind, IsMetByResume, IsMetByScript, PlayedNew, PlayedResumed, met_by};
+ghost use Rattle.epg_play.specs.Courses.{HasMet, HasPlayedOn, IsCourse, IsMetBehind, IsMetByResume, IsMetByScript, PlayedNew, PlayedResumed};
 ghost use Rattle.epg_play.specs.CheckpointRuns.{FoldRan, FoldRanWithin, ResumeRan, ResumeRanWithin};
-ghost use Rattle.epg_play.specs.Leaves.{PlayRan, PlayRanWithin};
+ghost use Rattle.epg_play.specs.Leaves.{PlayRan, PlayRanWithin, met_by};
 ghost use Rattle.epg_play.specs.Script.{limit_for};
 
 use crate::begin::{new_start, start_at};
@@ -185,7 +185,7 @@ pub fn run_play<S: Source, A: Sink, R: Sink>(
 }
 
 /// `play --fold`: plays the script of the input as [`run_play`] does, but reports the checkpoint of its journal and of
-/// the air that it sent, from which [`run_resumed`] goes on. Where a fault ends the run, the report is the line of the fault alone.
+/// the air that it sent, from which [`run_resumed`] goes on. Where a fault ends the run, the report is only the line of the fault.
 pub fn run_folded<S: Source, A: Sink, R: Sink>(
     alloc: Global,
     input: &mut S,

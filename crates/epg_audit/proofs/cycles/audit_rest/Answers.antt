@@ -1,4 +1,4 @@
-use Rattle.std.proofs.Common.{true, sym, ◌∙◌, subst, arith, refl}
+use Rattle.std.proofs.Common.{sym, ◌∙◌, subst, arith, refl}
 use Rattle.std.specs.Prelude.{Ok, Err}
 use Rattle.desk_core.specs.Desks.{DeskState, fresh}
 use Rattle.epg_report.specs.declared.status.Status.{Status}
@@ -13,26 +13,26 @@ use Rattle.epg_audit.proofs.cycles.audit_rest.Goals as goal
 
 pub items-init : goal.items-init
 items-init g c =
-    let begun = c.requires.begun in
+    let ready = c.requires.ready in
+    let begun = ready.begun in
     let mux = c.args.desk.now.desk.mux in
     record {
       going = c.requires.going;
-      unread = c.requires.unread;
       same = g.met.S.Source.same_at_once c.args.lines.now.source;
       read_later = omega arith;
       later = omega arith;
-      at_end = c.requires.at_end;
+      between = ready.between;
       stays = record { ready = begun.ready; shift = refl; keeps = refl };
       audits = record {
         state = fresh mux;
         at = begun.at;
         shift = begun.shift;
-        form = c.requires.form;
+        form = ready.form;
         went = subst (Went c.args.desk.now.shift g.S.Source.left c.args.lines.now c.args.lines.now (fresh mux) (fresh mux)) (sym begun.first)
             (went_none c.args.desk.now.shift g.S.Source.left c.args.lines.now (fresh mux));
         follows = λ nulls none. follows_none mux.rate nulls g.F.Source.left c.args.packets.now
             c.args.packets.now c.args.packets.now c.args.checker.now c.args.passed.now
-            (c.requires.kind nulls none) c.requires.stands c.requires.first none;
+            (ready.kind nulls none) ready.stands ready.first none;
       };
     }
 
@@ -48,7 +48,7 @@ returns-in-Err-check_on_air-clause-did g c = λ nulls none.
     let left = e.left c.args.lines.now (fresh mux) a.state a.at a.went in
     record {
       state = left.now;
-      made = own_entries mux left.now next left.at (e.stays.keeps ∙ i.stays.keeps ∙ c.requires.begun.keeps) (e.stays.shift ∙ a.shift);
+      made = own_entries mux left.now next left.at (e.stays.keeps ∙ i.stays.keeps ∙ c.requires.ready.begun.keeps) (e.stays.shift ∙ a.shift);
       did = cycle_did nulls g.S.Source.left g.F.Source.left c.args.lines.now new c.args.packets.now c.items.packets c.check_on_air.new.packets (fresh mux) left.now
           _ c.check_on_air.new.checker c.check_on_air.new.passed next.last c.in-Err-check_on_air.status
           (added g.S.Source.left g.F.Source.left c.args.lines.now c.items.lines new c.args.packets.now c.items.packets c.args.desk.now c.items.desk next c.items.checker c.args.passed.now c.items.passed a e.stays.shift
@@ -66,11 +66,10 @@ items-preserved-in_default g c =
     let e = rw c.in-Ok-Swap.field-0-is at c.in-Ok-Swap.ensures in
     record {
       going = e.going;
-      unread = c.in_default.ensures.going;
       same = g.met.S.Source.same_later c.args.lines.now.source c.items.lines.source c.do_item.new.lines.source i.same e.read.same;
       read_later = omega (arith, i.read_later, e.read.later);
       later = omega (arith, i.later, c.in_default.ensures.later);
-      at_end = c.in_default.ensures.at_end;
+      between = c.in_default.ensures.between;
       stays = stays_on c.args.desk.now c.items.desk c.do_item.new.desk i.stays e.stays;
       audits = audits_swap g.S.Source.left g.F.Source.left c.args.lines.now c.items.lines c.do_item.new.lines c.args.packets.now c.items.packets c.args.desk.now c.items.desk c.do_item.new.desk c.items.checker c.args.passed.now c.items.passed a e.stays.shift
           (e.left c.args.lines.now (fresh c.args.desk.now.desk.mux) a.state a.at a.went) c.check_on_air.new.packets c.check_on_air.new.checker c.check_on_air.new.passed c.in_default.ensures.form c.in_default.ensures.checks;
@@ -83,11 +82,10 @@ items-preserved g c =
     let e = rw c.in-Ok-Other.field-0-is at c.in-Ok-Other.ensures in
     record {
       going = e.going;
-      unread = i.unread;
       same = g.met.S.Source.same_later c.args.lines.now.source c.items.lines.source c.do_item.new.lines.source i.same e.read.same;
       read_later = omega (arith, i.read_later, e.read.later);
       later = i.later;
-      at_end = i.at_end;
+      between = i.between;
       stays = stays_on c.args.desk.now c.items.desk c.do_item.new.desk i.stays e.stays;
       audits = audits_other g.S.Source.left g.F.Source.left c.args.lines.now c.items.lines c.do_item.new.lines c.args.packets.now c.items.packets c.args.desk.now c.items.desk c.do_item.new.desk c.items.checker c.args.passed.now c.items.passed a e.stays.shift
           (e.left c.args.lines.now (fresh c.args.desk.now.desk.mux) a.state a.at a.went);
@@ -109,9 +107,9 @@ returns-in-Ok-End-clause-did g c = λ nulls none.
     (desk_airings left.now) c.items.checker f in
     record {
       state = left.now;
-      made = own_entries mux left.now next left.at (e.stays.keeps ∙ i.stays.keeps ∙ c.requires.begun.keeps) (e.stays.shift ∙ a.shift);
+      made = own_entries mux left.now next left.at (e.stays.keeps ∙ i.stays.keeps ∙ c.requires.ready.begun.keeps) (e.stays.shift ∙ a.shift);
       did = end_did nulls g.S.Source.left g.F.Source.left c.args.lines.now new c.args.packets.now ends.last c.check_end.new.packets (fresh mux) left.now c.items.checker c.check_end.new.passed c.check_end.result
-          ends.follows i.at_end
+          ends.follows i.between.at_end
           (own_stops g.S.Source.left g.F.Source.left c.args.lines.now c.items.lines new c.args.packets.now c.items.packets c.args.desk.now c.items.desk next c.items.checker c.args.passed.now c.items.passed a e.stays.shift
           left.now (Ok tt) left.goes_on) ends.gives;
     }
@@ -136,9 +134,9 @@ returns-in-Err-clause-did g c = λ nulls none.
     subst (λ (s : Status). DeskAudited nulls g.S.Source.left g.F.Source.left c.args.lines.now new c.args.packets.now c.args.desk.now next (Err s)) (sym c.status_of.ensures)
     (record {
       state = left.now;
-      made = own_entries mux left.now next left.at (e.stays.keeps ∙ i.stays.keeps ∙ c.requires.begun.keeps) (e.stays.shift ∙ a.shift);
+      made = own_entries mux left.now next left.at (e.stays.keeps ∙ i.stays.keeps ∙ c.requires.ready.begun.keeps) (e.stays.shift ∙ a.shift);
       did = script_did nulls g.S.Source.left g.F.Source.left c.args.lines.now new c.args.packets.now c.items.packets c.items.packets (fresh mux) left.now a.state c.items.checker c.items.passed c.in-Err.stop
-          (a.follows nulls none) i.at_end left.did
+          (a.follows nulls none) i.between.at_end left.did e.behind
           (own_stops g.S.Source.left g.F.Source.left c.args.lines.now c.items.lines new c.args.packets.now c.items.packets c.args.desk.now c.items.desk next c.items.checker c.args.passed.now c.items.passed a e.stays.shift
           left.now (Err c.in-Err.stop) left.goes_on);
     })

@@ -1,4 +1,4 @@
-use Rattle.std.proofs.Common.{refl, sym, ◌∙◌, subst, arith}
+use Rattle.std.proofs.Common.{refl, sym, ◌∙◌, subst, arith, rules}
 use Rattle.std.specs.Prelude.{Err}
 use Rattle.epg_report.specs.declared.status.Status.{Status}
 use Rattle.epg_audit.specs.Checks.{Checks, HasReadCause}
@@ -100,8 +100,8 @@ returns-in-Err-clause-later g c = omega (arith, c.loop-packets.invariant.later, 
 pub returns-clause-checks : goal.returns-clause-checks
 returns-clause-checks g c = c.loop-packets.invariant.follows
 
-pub returns-clause-going : goal.returns-clause-going
-returns-clause-going g c = c.loop-packets.invariant.going
+pub returns-clause-between : goal.returns-clause-between
+returns-clause-between g c = record { going = c.loop-packets.invariant.going; at_end = search rules }
 
 pub returns-clause-form : goal.returns-clause-form
 returns-clause-form g c = c.loop-packets.invariant.form

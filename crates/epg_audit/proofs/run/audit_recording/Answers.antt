@@ -1,11 +1,11 @@
-use Rattle.std.proofs.Common.{◌≡◌, Bool, List, length, refl, sym, ap, ◌∙◌, subst}
+use Rattle.std.proofs.Common.{◌≡◌, Bool, List, length, rules, sym, ap, ◌∙◌, subst}
 use Rattle.std.specs.Prelude.{Ok, Err, IsErrAnd, Result}
 use Rattle.std.proofs.lemmas.List.{length-map}
 use Rattle.mux_model.specs.declared.mux.Mux.{Mux}
 use Rattle.journal_model.specs.declared.step.Entry.{Entry}
 use Rattle.desk_core.specs.Desks.{fresh}
 use Rattle.desk_core.specs.Publications.{swaps}
-use Rattle.journal_air.specs.Air.{airing_at}
+use Rattle.journal_air.specs.Air.{airing_at, mux_form}
 use Rattle.epg_report.specs.declared.status.Status.{Status}
 use Rattle.epg_play.specs.declared.desk.ScriptDesk.{ScriptDesk}
 use Rattle.epg_audit.specs.declared.cycles.AirCount.{AirCount}
@@ -14,13 +14,21 @@ use Rattle.air_audit.specs.CycleChecking.{IsOf}
 use Rattle.epg_audit.proofs.Nulls.{none_yet, same_nulls}
 use Rattle.epg_audit.proofs.run.audit_recording.Goals as goal
 
-pub audit_rest-requires-clause-kind : goal.audit_rest-requires-clause-kind
-audit_rest-requires-clause-kind g c = λ nulls e.
+pub audit_rest-requires-clause-ready : goal.audit_rest-requires-clause-ready
+audit_rest-requires-clause-ready g c =
     let first = none_yet c.args.nulls c.then_some-passed.result c.then_some-passed.ensures in
     let mux_is : c.open-desk.result.desk.mux ≡ c.args.mux = ap (λ (d : ScriptDesk). d.desk.mux) c.open-desk.ensures.value ∙ c.in-Ok-open.ensures.mux in
-    subst (λ (m : Mux). IsOf m.rate nulls c.in-Ok.checker) (sym mux_is)
-    (subst (λ (n : Bool). IsOf c.args.mux.rate n c.in-Ok.checker)
-    (same_nulls c.args.nulls nulls (sym first ∙ e)) c.in-Ok.ensures.kind)
+    record {
+      between = search rules;
+      first = search rules;
+      stands = c.in-Ok.ensures.stands;
+      kind = λ nulls e.
+          subst (λ (m : Mux). IsOf m.rate nulls c.in-Ok.checker) (sym mux_is)
+          (subst (λ (n : Bool). IsOf c.args.mux.rate n c.in-Ok.checker)
+          (same_nulls c.args.nulls nulls (sym first ∙ e)) c.in-Ok.ensures.kind);
+      form = c.in-Ok.ensures.form ∙ sym (ap mux_form mux_is);
+      begun = search rules;
+    }
 
 pub returns-in_default-clause-audited : goal.returns-in_default-clause-audited
 returns-in_default-clause-audited g c = (fresh c.args.mux, tt)

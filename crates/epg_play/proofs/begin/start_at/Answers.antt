@@ -1,7 +1,7 @@
 use Rattle.std.proofs.Common.{Option, ap, ◌∙◌, subst}
 use Rattle.si_causes.specs.Opening.{Files, GivesFile}
 use Rattle.epg_report.proofs.Asking.{given_file}
-use Rattle.epg_play.proofs.BeginFacts.{begins_at, known_at, opened_at}
+use Rattle.epg_play.proofs.BeginFacts.{begins_at}
 use Rattle.epg_play.proofs.begin.start_at.Goals as goal
 
 pub returns-clause-begins : goal.returns-clause-begins
@@ -11,9 +11,3 @@ returns-clause-begins g c = λ files has.
     let file = given_file files path left (subst (λ (o : Option Files). GivesFile o path left) has c.in-Ok.ensures.content) in
     begins_at path files c.args.mux file.0 c.read_start-begun.result file.2
     (c.read_start-begun.ensures.begins file.0 (ap (λ r. g.O.From.Source.left r.source) c.in-Ok-open_to.ensures ∙ file.1))
-
-pub returns-clause-known : goal.returns-clause-known
-returns-clause-known g c = known_at c.read_start-begun.result c.read_start-begun.ensures.known
-
-pub returns-clause-open_cause : goal.returns-clause-open_cause
-returns-clause-open_cause g c = opened_at _ _ c.read_start-begun.result c.read_start-begun.ensures.known

@@ -1,4 +1,4 @@
-use Rattle.epg_play.proofs.TallyFacts.{plain_report}
+use Rattle.epg_play.proofs.ReportFacts.{plain_report}
 use Rattle.epg_play.proofs.laws.plain_reports_are_journals.Goals as goal
 
 pub returns : goal.returns

@@ -3,8 +3,7 @@ use Rattle.std.specs.Prelude.{Err}
 use Rattle.epg_play.specs.declared.stop.PlayStop.{PlayStop}
 use Rattle.epg_play.specs.Courses.{PlaysRest}
 use Rattle.epg_play.specs.Played.{HasAirCause, HasReadCause, IsStopBehind}
-use Rattle.epg_play.proofs.CourseFacts.{item_behind, item_no_air, sent_behind, sent_caused, sent_no_read}
-use Rattle.epg_play.proofs.RestFacts.{course_with, gone_none, gone_other, gone_swap, rest_cut, rest_ended, rest_stopped, stays_on}
+use Rattle.epg_play.proofs.RestFacts.{course_with, gone_none, gone_other, gone_swap, rest_cut, rest_ended, rest_stopped, sent_behind, sent_caused, sent_no_read, stays_on}
 use Rattle.epg_play.proofs.play.play_rest.Goals as goal
 
 pub items-init : goal.items-init
@@ -64,8 +63,26 @@ returns-in-Err-send_on_air-clause-plays g c = λ before at.
     (rest_cut g.S.Source.left c.args.lines.now before c.args.course.now.player w c.items.lines c.do_item.new.lines c.items.course.desk c.do_item.new.desk c.items.course.player (g.A.Sink.written c.items.air)
     g0 (e.left c.args.lines.now before g0.now g0.at g0.went) c.send_on_air.new.player (g.A.Sink.written c.send_on_air.new.air) c.in-Err-send_on_air.stop (record { sent = s.sent; counted = s.counted; alike = s.alike }))
 
+pub returns-in-Ok-End-clause-plays : goal.returns-in-Ok-End-clause-plays
+returns-in-Ok-End-clause-plays g c = λ before at.
+    let e = rw c.in-Ok-End.field-0-is at c.in-Ok-End.ensures in
+    let g0 = c.items.invariant.gone before at in
+    rest_ended g.S.Source.left c.args.lines.now before c.args.course.now.player (g.A.Sink.written c.args.air.now) c.items.lines c.do_item.new.lines c.items.course.desk c.do_item.new.desk c.items.course.player (g.A.Sink.written c.items.air)
+    g0 (e.left c.args.lines.now before g0.now g0.at g0.went)
+
+pub returns-in-Err-clause-plays : goal.returns-in-Err-clause-plays
+returns-in-Err-clause-plays g c = λ before at.
+    let g0 = c.items.invariant.gone before at in
+    rest_stopped g.S.Source.left c.args.lines.now before c.args.course.now.player (g.A.Sink.written c.args.air.now) c.items.lines c.do_item.new.lines c.items.course.desk c.do_item.new.desk c.items.course.player (g.A.Sink.written c.items.air)
+    g0 c.in-Err.stop c.in-Err.ensures.behind (c.in-Err.ensures.left c.args.lines.now before g0.now g0.at g0.went)
+
 pub returns-in-Err-send_on_air-clause-behind : goal.returns-in-Err-send_on_air-clause-behind
 returns-in-Err-send_on_air-clause-behind g c = subst IsStopBehind (sym c.stop_of.ensures) (sent_behind c.in-Err-send_on_air.stop)
+
+pub returns-in-Err-send_on_air-clause-cause : goal.returns-in-Err-send_on_air-clause-cause
+returns-in-Err-send_on_air-clause-cause g c =
+    subst (λ (stop : PlayStop). HasAirCause {T = Unit {0}} (g.A.Sink.faults c.args.air.now) (g.A.Sink.faults c.send_on_air.new.air) (Err stop)) (sym c.stop_of.ensures)
+    (sent_caused (g.A.Sink.faults c.args.air.now) (g.A.Sink.faults c.items.air) (g.A.Sink.faults c.send_on_air.new.air) c.in-Err-send_on_air.stop c.items.invariant.air_later c.in-Err-send_on_air.ensures.cause)
 
 pub returns-in-Err-send_on_air-clause-read : goal.returns-in-Err-send_on_air-clause-read
 returns-in-Err-send_on_air-clause-read g c =
@@ -78,27 +95,3 @@ returns-in-Err-send_on_air-clause-read g c =
       later = omega (arith, i.read_later, e.read.later);
       same = g.met.S.Source.same_later c.args.lines.now.source c.items.lines.source c.do_item.new.lines.source i.same e.read.same;
     }
-
-pub returns-in-Err-send_on_air-clause-cause : goal.returns-in-Err-send_on_air-clause-cause
-returns-in-Err-send_on_air-clause-cause g c =
-    subst (λ (stop : PlayStop). HasAirCause {T = Unit {0}} (g.A.Sink.faults c.args.air.now) (g.A.Sink.faults c.send_on_air.new.air) (Err stop)) (sym c.stop_of.ensures)
-    (sent_caused (g.A.Sink.faults c.args.air.now) (g.A.Sink.faults c.items.air) (g.A.Sink.faults c.send_on_air.new.air) c.in-Err-send_on_air.stop c.items.invariant.air_later c.in-Err-send_on_air.ensures.cause)
-
-pub returns-in-Err-clause-cause : goal.returns-in-Err-clause-cause
-returns-in-Err-clause-cause g c = item_no_air _ _ c.in-Err.stop c.in-Err.ensures.behind
-
-pub returns-in-Err-clause-behind : goal.returns-in-Err-clause-behind
-returns-in-Err-clause-behind g c = item_behind c.in-Err.stop c.in-Err.ensures.behind
-
-pub returns-in-Ok-End-clause-plays : goal.returns-in-Ok-End-clause-plays
-returns-in-Ok-End-clause-plays g c = λ before at.
-    let e = rw c.in-Ok-End.field-0-is at c.in-Ok-End.ensures in
-    let g0 = c.items.invariant.gone before at in
-    rest_ended g.S.Source.left c.args.lines.now before c.args.course.now.player (g.A.Sink.written c.args.air.now) c.items.lines c.do_item.new.lines c.items.course.desk c.do_item.new.desk c.items.course.player (g.A.Sink.written c.items.air)
-    g0 (e.left c.args.lines.now before g0.now g0.at g0.went)
-
-pub returns-in-Err-clause-plays : goal.returns-in-Err-clause-plays
-returns-in-Err-clause-plays g c = λ before at.
-    let g0 = c.items.invariant.gone before at in
-    rest_stopped g.S.Source.left c.args.lines.now before c.args.course.now.player (g.A.Sink.written c.args.air.now) c.items.lines c.do_item.new.lines c.items.course.desk c.do_item.new.desk c.items.course.player (g.A.Sink.written c.items.air)
-    g0 c.in-Err.stop (c.in-Err.ensures.left c.args.lines.now before g0.now g0.at g0.went)

@@ -4,7 +4,6 @@ use Rattle.epg_play.specs.Beginning.{IsNew}
 use Rattle.epg_play.specs.Courses.{CourseBehind, NotPlayed}
 use Rattle.epg_play.specs.Over.{LeavesOver}
 use Rattle.epg_play.proofs.PlayedFacts.{first_within, played_over, undescribed_over}
-use Rattle.epg_play.proofs.StopFacts.{behind_script}
 use Rattle.si_causes.proofs.CauseFacts.{Rose-from}
 use Rattle.epg_play.proofs.run.play_new.Goals as goal
 
@@ -31,9 +30,6 @@ returns-in-Ok-new_start-clause-played g c = λ text tells.
     let read = first_within limit g.S.Source.left g.S.Source.faults g.S.Source.same c.args.lines.now mid source text c.in-Ok.mux c.requires.unread tells c.in-Ok.ensures.read in
     played_over limit g.S.Source.left source mid c.play_on.new.lines text c.in-Ok.mux tells read.0 read.1 c.args.fold c.in-Ok-new_start.start (IsNew c.in-Ok.mux) c.in-Ok-new_start.ensures before now played c.play_on.ensures.played
     (λ s. NotPlayed before now played) (λ mux lines s. CourseBehind c.args.fold (IsNew mux) before now played lines) (λ lines course. course)
-
-pub returns-in-Ok-new_start-clause-known : goal.returns-in-Ok-new_start-clause-known
-returns-in-Ok-new_start-clause-known g c = behind_script c.play_on.result.met c.play_on.ensures.known
 
 pub returns-in-Ok-new_start-clause-met : goal.returns-in-Ok-new_start-clause-met
 returns-in-Ok-new_start-clause-met g c =

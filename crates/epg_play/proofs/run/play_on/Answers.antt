@@ -1,29 +1,9 @@
-use Rattle.std.proofs.Common.{ℕ, refl, sym, ap, ◌∙◌, subst}
+use Rattle.std.proofs.Common.{ℕ, refl, ap, ◌∙◌, subst}
 use Rattle.std.specs.Prelude.{not}
-use Rattle.epg_report.specs.Texts.{CanBeSaid}
 use Rattle.epg_play.specs.declared.desk.ScriptDesk.{ScriptDesk}
-use Rattle.epg_play.specs.Courses.{IsMetBehind}
 use Rattle.epg_play.specs.Items.{Stops}
 use Rattle.epg_play.proofs.RestFacts.{begun_at}
-use Rattle.epg_play.proofs.StopFacts.{met_air, met_behind, met_end, met_input, met_said}
 use Rattle.epg_play.proofs.run.play_on.Goals as goal
-
-pub returns-clause-said : goal.returns-clause-said
-returns-clause-said g c = subst CanBeSaid (sym c.met_of.ensures) (met_said c.play_rest-played.result c.play_rest-played.ensures.behind)
-
-pub returns-clause-known : goal.returns-clause-known
-returns-clause-known g c = subst IsMetBehind (sym c.met_of.ensures) (met_behind c.play_rest-played.result c.play_rest-played.ensures.behind)
-
-pub returns-clause-met : goal.returns-clause-met
-returns-clause-met g c =
-    let read = c.play_rest-played.ensures.read in
-    let r = c.play_rest-played.result in
-    record {
-      end = λ done. met_end _ r read.end (sym c.met_of.ensures ∙ done);
-      input_cause = λ e. met_input _ _ r read.cause (sym c.met_of.ensures ∙ e);
-      air_cause = λ e. met_air _ _ r c.play_rest-played.ensures.cause (sym c.met_of.ensures ∙ e);
-      same = read.same;
-    }
 
 pub returns-clause-played : goal.returns-clause-played
 returns-clause-played g c =

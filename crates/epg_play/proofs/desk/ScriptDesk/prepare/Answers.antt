@@ -2,7 +2,7 @@ use Rattle.std.proofs.Common.{◌∙◌, ap, subst, sym}
 use Rattle.desk_core.specs.Lean.{with_entry}
 use Rattle.journal_model.specs.Raising.{raised}
 use Rattle.journal_model.specs.Steps.{IsInWindow}
-use Rattle.epg_play.proofs.DeskFacts.{outcome_at, stepped}
+use Rattle.epg_play.proofs.CourseFacts.{outcome_at, stepped}
 use Rattle.epg_play.proofs.RaiseFacts.{few_raised, raised_window}
 use Rattle.epg_play.proofs.desk.ScriptDesk.prepare.Goals as goal
 
