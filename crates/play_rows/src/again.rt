@@ -25,13 +25,9 @@ fn put_again<W: World>(bench: &mut Bench<W>, journal: &str) {
     say!(script; "{}{journal}\n", description(bench.input.text()));
     bench.run_over("play", script.as_slice());
     let is_same = bench.left.report_text().strip_suffix('\n') == Some(journal);
-    let code = u64::from(bench.left.code());
-    bench.answer.say_number("; play: ", code);
-    bench.answer.say(if is_same {
-        ", the same journal"
-    } else {
-        ", another journal"
-    });
+    let which = if is_same { "the same" } else { "another" };
+    let (answer, code) = (&mut bench.answer, bench.left.code());
+    say!(answer; "; play: {code}, {which} journal");
 }
 
 /// `WORDS ; - ; INPUT ; FILE ; ..`: what a run leaves, how many entries its journal has and how many of them are done edits, and what

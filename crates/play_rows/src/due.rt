@@ -202,8 +202,7 @@ pub fn tell_order<W: World>(bench: &mut Bench<W>, row: &str) -> Option<()> {
         "listen" => reports_in_order(bench)?,
         _ => return None,
     };
-    bench
-        .answer
-        .say(if is_due { "as due" } else { "not as due" });
+    let answer = &mut bench.answer;
+    answer.say(if is_due { "as due" } else { "not as due" });
     Some(())
 }

@@ -45,12 +45,14 @@ fn put_difference(out: &mut Buffer, left: &str, kept: &str) {
     if left == kept {
         return out.say("as kept");
     }
-    for (line, other) in left.split('\n').zip(kept.split('\n')) {
+    let mut due = kept.split('\n');
+    for line in left.split('\n') {
+        let other = due.next().unwrap_or("");
         if line != other {
             return say!(out; "{line} and not {other}");
         }
     }
-    out.say("more lines, or fewer")
+    out.say("fewer lines")
 }
 
 /// `N WORDS ; - ; INPUT ; FILE ..`

@@ -1,6 +1,7 @@
 // Two recordings whose guides are compared.
-use row_lines::{Buffer, World};
+use row_lines::{Buffer, World, say};
 use run_tools::Bench;
+use std::fmt::Write;
 use std::mem;
 
 // Appends what these words report of a recording, without the lines of tables, which name packets.
@@ -24,11 +25,8 @@ pub fn tell_heard<W: World>(bench: &mut Bench<W>, row: &str) -> Option<()> {
     let mut whole = Buffer::open(bench.alloc);
     put_guide(bench, case.words, other.as_slice(), &mut whole);
     let is_same = guide.as_slice() == whole.as_slice() && !whole.lacks();
-    bench
-        .answer
-        .say(if is_same { "the same" } else { "another" });
-    bench
-        .answer
-        .say_number(", lines ", guide.text().lines().count() as u64);
+    let which = if is_same { "the same" } else { "another" };
+    let (answer, lines) = (&mut bench.answer, guide.text().lines().count());
+    say!(answer; "{which}, lines {lines}");
     Some(())
 }

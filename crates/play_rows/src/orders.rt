@@ -26,12 +26,9 @@ pub fn tell_held<W: World>(bench: &mut Bench<W>, row: &str) -> Option<()> {
     let case = bench.take_faultless(row)?;
     let gate = Holding::of(bench.alloc, holds).ok()?;
     bench.run_held(case.words, NONE, &gate);
-    let left = &bench.left;
-    bench.answer.say_number("", u64::from(left.code()));
-    bench.answer.say(": ");
-    put_entries(&mut bench.answer, left.report_text(), callers);
-    bench
-        .answer
-        .say(if gate.gave_up() { "gave up" } else { "end" });
+    let (answer, left) = (&mut bench.answer, &bench.left);
+    say!(answer; "{}: ", left.code());
+    put_entries(answer, left.report_text(), callers);
+    answer.say(if gate.gave_up() { "gave up" } else { "end" });
     Some(())
 }

@@ -74,10 +74,7 @@ pub fn tell_promised<W: World>(bench: &mut Bench<W>, row: &str) -> Option<()> {
         files: mem::replace(&mut bench.files, Vec::new(bench.alloc)),
     };
     let all = all_promised(bench, &run)?;
-    bench.answer.say(if all {
-        "as promised"
-    } else {
-        "not as promised"
-    });
+    bench.answer.say(if all { "" } else { "not " });
+    bench.answer.say("as promised");
     Some(())
 }
