@@ -1,12 +1,12 @@
 // The first descriptor of a kind.
 ghost use Rattle.std.specs.Prelude.{◌≡◌, List, Bool, Option, ℕ, IfOk, OnOk};
-ghost use Rattle.table_bodies.specs.First.{first_in, said_by, without_first};
+ghost use Rattle.descriptors.specs.First.{first_in, said_by, without_first};
 
 use guide_model::RawDesc;
 use std::alloc::{AllocError, Global};
 
 /// A kind of descriptors: its descriptor_tag, what a body is read as, and whether that shows a body whole.
-pub(crate) trait DescriptorKind {
+pub trait DescriptorKind {
     /// What a body is read as.
     type Value: Drop;
 
@@ -44,7 +44,7 @@ fn said_by<K: DescriptorKind>(alloc: Global, desc: &RawDesc) -> Result<Option<K:
 
 /// What the first descriptor of this kind says whose body fits. It is taken out of the list where its value shows all
 /// of it. Want of memory changes nothing.
-pub(crate) fn take_first<K: DescriptorKind>(
+pub fn take_first<K: DescriptorKind>(
     alloc: Global,
     descs: &mut Vec<RawDesc>,
 ) -> Result<Option<K::Value>, AllocError>

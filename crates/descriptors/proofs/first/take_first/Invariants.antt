@@ -1,6 +1,6 @@
 use Rattle.std.proofs.Common.{◌≡◌, ◌++◌, length, take, drop}
-use Rattle.table_bodies.specs.First.{first_in, without_first}
-use Rattle.table_bodies.proofs.first.take_first.Given as goal
+use Rattle.descriptors.specs.First.{first_in, without_first}
+use Rattle.descriptors.proofs.first.take_first.Given as goal
 
 -- those so far are of another kind, or do not fit
 abbrev pub invariant-loop-place : goal.invariant-loop-place

@@ -2,28 +2,24 @@
 ghost use Rattle.std.specs.Prelude.{◌≡◌, ◌==◌, length, Some};
 ghost use Rattle.descriptors.specs.CableDelivery.{cable_in};
 ghost use Rattle.descriptors.specs.Content.{content_in};
-ghost use Rattle.descriptors.specs.Languages.{languages_in};
-ghost use Rattle.descriptors.specs.NetworkName.{network_name_in};
-ghost use Rattle.descriptors.specs.ParentalRating.{parental_rating_in};
+ghost use Rattle.descriptors.specs.First.{always};
+ghost use Rattle.descriptors.specs.Languages.{is_one_language, languages_in};
+ghost use Rattle.descriptors.specs.NetworkName.{name_read, network_name_in};
+ghost use Rattle.descriptors.specs.ParentalRating.{is_one_rating, parental_rating_in};
 ghost use Rattle.descriptors.specs.Service.{service_in};
 ghost use Rattle.descriptors.specs.ServiceList.{service_list_in};
 ghost use Rattle.descriptors.specs.ShortEvent.{short_event_in};
-ghost use Rattle.table_bodies.specs.First.{always};
-ghost use Rattle.table_bodies.specs.Nit.{name_read};
-ghost use Rattle.table_bodies.specs.Pmt.{is_one_language};
-ghost use Rattle.table_bodies.specs.ShownEvent.{is_one_rating};
 
-use crate::first::DescriptorKind;
-use descriptors::{
-    Languages, Ratings, ServiceKinds, ServiceText, ShortEvent, read_cable_delivery_system,
-    read_content, read_iso_639_language, read_network_name, read_parental_rating, read_service,
-    read_service_list, read_short_event,
+use crate::{
+    DescriptorKind, Languages, Ratings, ServiceKinds, ServiceText, ShortEvent,
+    read_cable_delivery_system, read_content, read_iso_639_language, read_network_name,
+    read_parental_rating, read_service, read_service_list, read_short_event,
 };
 use guide_model::{Cable, Genres, Shown};
 use std::alloc::{AllocError, Global};
 
 /// network_name_descriptor (EN 300 468, 6.2.27).
-pub(crate) struct NetworkName;
+pub struct NetworkName;
 
 impl DescriptorKind for NetworkName {
     type Value = Shown;
@@ -46,7 +42,7 @@ impl DescriptorKind for NetworkName {
 }
 
 /// service_list_descriptor (EN 300 468, 6.2.35).
-pub(crate) struct ServiceList;
+pub struct ServiceList;
 
 impl DescriptorKind for ServiceList {
     type Value = ServiceKinds;
@@ -69,7 +65,7 @@ impl DescriptorKind for ServiceList {
 }
 
 /// cable_delivery_system_descriptor (EN 300 468, 6.2.13.1).
-pub(crate) struct CableDelivery;
+pub struct CableDelivery;
 
 impl DescriptorKind for CableDelivery {
     type Value = Cable;
@@ -92,7 +88,7 @@ impl DescriptorKind for CableDelivery {
 }
 
 /// service_descriptor (EN 300 468, 6.2.33).
-pub(crate) struct Service;
+pub struct Service;
 
 impl DescriptorKind for Service {
     type Value = ServiceText;
@@ -115,7 +111,7 @@ impl DescriptorKind for Service {
 }
 
 /// ISO_639_language_descriptor (ISO/IEC 13818-1, 2.6.18). A component has one language, without its audio_type.
-pub(crate) struct Language;
+pub struct Language;
 
 impl DescriptorKind for Language {
     type Value = Languages;
@@ -138,7 +134,7 @@ impl DescriptorKind for Language {
 }
 
 /// short_event_descriptor (EN 300 468, 6.2.37).
-pub(crate) struct ShortText;
+pub struct ShortText;
 
 impl DescriptorKind for ShortText {
     type Value = ShortEvent;
@@ -161,7 +157,7 @@ impl DescriptorKind for ShortText {
 }
 
 /// content_descriptor (EN 300 468, 6.2.9).
-pub(crate) struct Content;
+pub struct Content;
 
 impl DescriptorKind for Content {
     type Value = Genres;
@@ -184,7 +180,7 @@ impl DescriptorKind for Content {
 }
 
 /// parental_rating_descriptor (EN 300 468, 6.2.28). An event has the rating of one country.
-pub(crate) struct ParentalRating;
+pub struct ParentalRating;
 
 impl DescriptorKind for ParentalRating {
     type Value = Ratings;
