@@ -1,9 +1,9 @@
 use Rattle.std.proofs.Common.{◌≡◌, ◌∙◌, subst, sym, ap}
 use Rattle.std.specs.Prelude.{IfOk, codes}
 use Rattle.input_lines.specs.Numbers.{is_word}
-use Rattle.mux_config.specs.declared.record.RecordFound.{RecordFound}
-use Rattle.mux_config.proofs.EightFields.{of_eight, third_word}
-use Rattle.mux_config.proofs.rows.record_of_seven.Goals as goal
+use Rattle.mux_lines.specs.declared.record.RecordFound.{RecordFound}
+use Rattle.mux_lines.proofs.EightFields.{of_eight, third_word}
+use Rattle.mux_lines.proofs.rows.record_of_seven.Goals as goal
 
 pub returns-then-is_word-3 : goal.returns-then-is_word-3
 returns-then-is_word-3 c =

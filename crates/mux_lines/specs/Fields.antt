@@ -6,25 +6,14 @@ use Rattle.input_lines.specs.Numbers.{is_word, numeral_of, in_range}
 use Rattle.mux_model.specs.Sound.{farthest}
 use Rattle.mux_model.specs.declared.mux.MuxService.{MuxService}
 use Rattle.mux_model.specs.declared.mux.RemoteService.{RemoteService}
-use Rattle.mux_config.specs.declared.rows.Numbers.{Numbers}
-use Rattle.mux_config.specs.declared.record.Record.{Record}
-use Rattle.mux_config.specs.declared.record.Record.TheVariants.{Network, Stream, Delivery, Service, Part, Start, Quota, Rate, Local, Elsewhere, Remote, End}
-use Rattle.mux_config.specs.declared.record.RecordFound.{RecordFound}
-use Rattle.mux_config.specs.declared.record.RecordFound.TheVariants.{NoRecord, OutOfRange, Is}
+use Rattle.mux_lines.specs.declared.rows.Numbers.{Numbers}
+use Rattle.mux_lines.specs.declared.record.Record.TheVariants.{Network, Stream, Delivery, Service, Part, Start, Quota, Rate, Local, Elsewhere, Remote, End}
+use Rattle.mux_lines.specs.declared.record.RecordFound.{RecordFound}
+use Rattle.mux_lines.specs.declared.record.RecordFound.TheVariants.{NoRecord, OutOfRange, Is}
+use Rattle.mux_lines.specs.Found.{spelled, within}
+use Rattle.mux_lines.specs.Further.{in_loop, of_component, of_id}
 use Rattle.guide_model.specs.Coding.{coded_size}
 use Rattle.si_time.specs.Readings.{moment_in}
-
--- a field that is spelled as a number, and what is found with it
-abbrev pub found_with : Option ℕ → (ℕ → RecordFound) → RecordFound
-found_with None next = NoRecord
-found_with (Some n) next = next n
-
-abbrev pub spelled : List ℕ → (ℕ → RecordFound) → RecordFound
-spelled field next = found_with (numeral_of field) next
-
--- a record whose fields are in their ranges, or are not
-abbrev pub within : Bool → Record → RecordFound
-within fits says = if fits then Is says else OutOfRange
 
 -- `network,ID,NAME`
 abbrev pub network_in : List ℕ → List ℕ → RecordFound
@@ -49,7 +38,7 @@ cable_in frequency modulation rate outer inner =
 
 -- a service without components
 abbrev pub bare_service : ℕ → ℕ → ℕ → ℕ → ℕ → List ℕ → List ℕ → MuxService
-bare_service id feed kind pmt pcr provider name = record { service = id; feed = feed; kind = kind; pmt_pid = pmt; pcr_pid = pcr; provider = provider; name = name; components = [] }
+bare_service id feed kind pmt pcr provider name = record { service = id; feed = feed; kind = kind; pmt_pid = pmt; pcr_pid = pcr; provider = provider; name = name; components = []; descriptors = []; program_descriptors = [] }
 
 abbrev pub is_service_in_range : MuxService → Bool
 is_service_in_range s =
@@ -92,7 +81,7 @@ abbrev pub part_in : List ℕ → List ℕ → List ℕ → List ℕ → RecordF
 part_in service kind pid language =
     spelled service (λ s. spelled kind (λ k. spelled pid (λ p.
     within ((in_range 0 65535 s && (in_range 0 255 k && in_range 32 8190 p)) && is_language language)
-    (Part s (record { stream_type = k; pid = p; language = language_of language })))))
+    (Part s (record { stream_type = k; pid = p; language = language_of language; descriptors = [] })))))
 
 -- three letters A to Z
 abbrev pub is_capital : ℕ → Bool
@@ -182,6 +171,14 @@ three_in word a b =
     if is_word (codes "network") word then network_in a b
     else if is_word (codes "stream") word then stream_in a b
     else if is_word (codes "other") word then other_in a b
+    else if is_word (codes "descriptor") word then in_loop a b
+    else NoRecord
+
+-- a line of five fields
+abbrev pub five_in : List ℕ → List ℕ → List ℕ → List ℕ → List ℕ → RecordFound
+five_in word a b c d =
+    if is_word (codes "component") word then part_in a b c d
+    else if is_word (codes "descriptor") word then of_component a b c d
     else NoRecord
 
 -- what the fields of a line say, by the word in front and how many they are
@@ -193,7 +190,8 @@ found_in (word ∷ a ∷ []) =
     else if is_word (codes "rate") word then rate_in a
     else NoRecord
 found_in (word ∷ a ∷ b ∷ []) = three_in word a b
-found_in (word ∷ a ∷ b ∷ c ∷ d ∷ []) = if is_word (codes "component") word then part_in a b c d else NoRecord
+found_in (word ∷ a ∷ b ∷ c ∷ []) = if is_word (codes "descriptor") word then of_id a b c else NoRecord
+found_in (word ∷ a ∷ b ∷ c ∷ d ∷ []) = five_in word a b c d
 found_in (word ∷ a ∷ b ∷ c ∷ d ∷ e ∷ []) = if is_word (codes "cable") word then cable_in a b c d e else NoRecord
 found_in (word ∷ a ∷ b ∷ c ∷ d ∷ e ∷ f ∷ []) = if is_word (codes "offset") word then offset_in a b c d e f else NoRecord
 found_in fields = eight_in fields

@@ -2,8 +2,8 @@
 use Rattle.std.proofs.Common.{◌≡◌, ◌∙◌, ap, ℕ, ◌<◌, ◌≤◌, true, false, List, [], ◌∷◌, length, get_or, refl, arith}
 use Rattle.std.specs.Prelude.{codes}
 use Rattle.input_lines.specs.Numbers.{is_word}
-use Rattle.mux_config.specs.declared.record.RecordFound.{RecordFound}
-use Rattle.mux_config.specs.Fields.{eight_in, remote_in}
+use Rattle.mux_lines.specs.declared.record.RecordFound.{RecordFound}
+use Rattle.mux_lines.specs.Fields.{eight_in, remote_in}
 
 abbrev At : List (List ℕ) → ℕ → List ℕ → Type 0
 At xs i x = x ≡ get_or xs i x

@@ -2,49 +2,17 @@
 ghost use Rattle.std.specs.Prelude.{◌≡◌, ◌<◌, ◌∷◌, [], true, false, IfOk, IfSome, IfNone, Some, option_map};
 ghost use Rattle.guide_model.specs.Coding.{coded_size};
 ghost use Rattle.input_lines.specs.Numbers.{in_range};
-ghost use Rattle.mux_model.specs.Sound.{Between, farthest};
-ghost use Rattle.mux_config.specs.Fields.{network_in, stream_in, cable_in, delivery_with, are_ids, other_in, other_by, cabled_in, remote_with, remote_by, remote_in, eight_in, three_in, numbers_in, service_with, service_of as numbers_service, bare_service, is_letter as is_small_letter, is_language as is_a_language, language_of, part_in, is_capital, country_of, side_of, offset_with, offset_in, start_in, quota_in, rate_in, found_in};
+ghost use Rattle.mux_model.specs.Sound.{farthest};
+ghost use Rattle.mux_lines.specs.Fields.{network_in, stream_in, cable_in, delivery_with, are_ids, other_in, other_by, cabled_in, remote_with, remote_by, remote_in, eight_in, five_in, three_in, numbers_in, service_with, service_of as numbers_service, bare_service, is_letter as is_small_letter, is_language as is_a_language, language_of, part_in, is_capital, country_of, side_of, offset_with, offset_in, start_in, quota_in, rate_in, found_in, found_line};
 
+use crate::further::{in_loop, of_component, of_id};
+use crate::numbers::{byte, is_in, short};
 use crate::record::{Record, RecordFound};
-use guide_model::{Cable, Component, Components, Offset, Txt, coded_len};
-use input_lines::{is_word, numeral};
+use guide_model::{Cable, Component, Components, Offset, RawDescs, Txt, coded_len};
+use input_lines::{fields, is_word, numeral};
 use mux_model::{MuxService, RemoteService};
 use si_time::{Moment, read_moment};
 use std::alloc::{AllocError, Global};
-
-// Whether a number is in a range.
-fn is_in(low: u32, high: u32, n: u32) -> bool
-    ensures value { result ≡ in_range low high n }
-    ensures bounds { result ≡ true → Between low high n }
-{
-    low <= n && n <= high
-}
-
-// A number of a range of 16 bits.
-fn short(low: u32, high: u32, n: u32) -> Option<u16>
-    requires { high < 65536 }
-    ensures some { IfSome result (λ m. (in_range low high n ≡ true) × (m ≡ n)) }
-    ensures none { IfNone result (in_range low high n ≡ false) }
-{
-    if is_in(low, high, n) {
-        Some(n as u16)
-    } else {
-        None
-    }
-}
-
-// A number of a range of 8 bits.
-fn byte(low: u32, high: u32, n: u32) -> Option<u8>
-    requires { high < 256 }
-    ensures some { IfSome result (λ m. (in_range low high n ≡ true) × (m ≡ n)) }
-    ensures none { IfNone result (in_range low high n ≡ false) }
-{
-    if is_in(low, high, n) {
-        Some(n as u8)
-    } else {
-        None
-    }
-}
 
 // Whether the coded form of a text has a size in a range.
 fn fits(low: usize, text: &Txt) -> bool
@@ -194,6 +162,8 @@ fn service_of(
         provider: provider.copy()?,
         name: name.copy()?,
         components: Components::new(alloc),
+        descriptors: RawDescs::new(alloc),
+        program_descriptors: RawDescs::new(alloc),
     })))
 }
 
@@ -244,7 +214,7 @@ fn language(field: &Txt) -> Option<[u8; 3]>
 }
 
 // `component,SERVICE,TYPE,PID,LANGUAGE`
-fn part(service: &Txt, kind: &Txt, pid: &Txt, spoken: &Txt) -> RecordFound
+fn part(alloc: Global, service: &Txt, kind: &Txt, pid: &Txt, spoken: &Txt) -> RecordFound
     ensures { result ≡ part_in service.now kind.now pid.now spoken.now }
 {
     let Some(service) = numeral(service.as_str()) else {
@@ -274,6 +244,7 @@ fn part(service: &Txt, kind: &Txt, pid: &Txt, spoken: &Txt) -> RecordFound
             stream_type,
             pid,
             language: language(spoken),
+            descriptors: RawDescs::new(alloc),
         },
     ))
 }
@@ -589,7 +560,7 @@ fn remote(
 }
 
 // The record of two fields after its word.
-fn record_of_two(word: &Txt, a: &Txt, b: &Txt) -> Result<RecordFound, AllocError>
+fn record_of_two(alloc: Global, word: &Txt, a: &Txt, b: &Txt) -> Result<RecordFound, AllocError>
     ensures { IfOk result (λ found. found ≡ three_in word.now a.now b.now) }
 {
     if is_word(word.as_str(), "network") {
@@ -600,6 +571,45 @@ fn record_of_two(word: &Txt, a: &Txt, b: &Txt) -> Result<RecordFound, AllocError
     }
     if is_word(word.as_str(), "other") {
         return Ok(other(a, b));
+    }
+    if is_word(word.as_str(), "descriptor") {
+        return in_loop(alloc, a, b);
+    }
+    Ok(RecordFound::NoRecord)
+}
+
+// The record of three fields after its word.
+fn record_of_three(
+    alloc: Global,
+    word: &Txt,
+    a: &Txt,
+    b: &Txt,
+    c: &Txt,
+) -> Result<RecordFound, AllocError>
+    ensures { IfOk result (λ found. found ≡ found_in (word.now ∷ a.now ∷ b.now ∷ c.now ∷ [])) }
+{
+    if is_word(word.as_str(), "descriptor") {
+        return of_id(alloc, a, b, c);
+    }
+    Ok(RecordFound::NoRecord)
+}
+
+// The record of four fields after its word.
+fn record_of_four(
+    alloc: Global,
+    word: &Txt,
+    a: &Txt,
+    b: &Txt,
+    c: &Txt,
+    d: &Txt,
+) -> Result<RecordFound, AllocError>
+    ensures { IfOk result (λ found. found ≡ five_in word.now a.now b.now c.now d.now) }
+{
+    if is_word(word.as_str(), "component") {
+        return Ok(part(alloc, a, b, c, d));
+    }
+    if is_word(word.as_str(), "descriptor") {
+        return of_component(alloc, a, b, c, d);
     }
     Ok(RecordFound::NoRecord)
 }
@@ -654,8 +664,8 @@ fn record_of_seven(alloc: Global, fields: &[Txt]) -> Result<RecordFound, AllocEr
     Ok(RecordFound::NoRecord)
 }
 
-/// What the fields of a line say.
-pub(crate) fn found_in(alloc: Global, fields: &[Txt]) -> Result<RecordFound, AllocError>
+// What the fields of a line say.
+fn found_in(alloc: Global, fields: &[Txt]) -> Result<RecordFound, AllocError>
     ensures { IfOk result (λ found. found ≡ found_in fields.now) }
 {
     match fields {
@@ -667,14 +677,9 @@ pub(crate) fn found_in(alloc: Global, fields: &[Txt]) -> Result<RecordFound, All
             }
         }
         [word, a] => Ok(record_of_one(word, a)),
-        [word, a, b] => record_of_two(word, a, b),
-        [word, a, b, c, d] => {
-            if is_word(word.as_str(), "component") {
-                Ok(part(a, b, c, d))
-            } else {
-                Ok(RecordFound::NoRecord)
-            }
-        }
+        [word, a, b] => record_of_two(alloc, word, a, b),
+        [word, a, b, c] => record_of_three(alloc, word, a, b, c),
+        [word, a, b, c, d] => record_of_four(alloc, word, a, b, c, d),
         [word, a, b, c, d, e] => {
             if is_word(word.as_str(), "cable") {
                 Ok(cable(a, b, c, d, e))
@@ -690,5 +695,15 @@ pub(crate) fn found_in(alloc: Global, fields: &[Txt]) -> Result<RecordFound, All
             }
         }
         _ => record_of_seven(alloc, fields),
+    }
+}
+
+/// What a line says: its record, or that it is none, or that a field is outside its range.
+pub fn found_line(alloc: Global, line: &[u8]) -> Result<RecordFound, AllocError>
+    ensures { IfOk result (λ found. found ≡ found_line line.now) }
+{
+    match fields(alloc, line)? {
+        Some(fields) => found_in(alloc, fields.as_slice()),
+        None => Ok(RecordFound::NoRecord),
     }
 }
