@@ -12,5 +12,4 @@ pub mod ExtendedEvent
 pub mod Content
 pub mod ParentalRating
 pub mod EventDescriptors
-pub mod First
 pub mod EventRows

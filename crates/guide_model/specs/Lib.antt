@@ -1,6 +1,5 @@
 pub mod Coding
 pub mod Control
-pub mod Descriptors
 pub mod Stores
 pub mod Decoding
 pub mod Cutting

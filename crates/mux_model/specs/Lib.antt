@@ -1,5 +1,4 @@
 pub mod Order
-pub mod Rooms
 pub mod Sound
 pub mod Muxes
 pub mod Rows

@@ -62,7 +62,6 @@ fn program(service: &MuxService) -> Result<Pmt, AllocError>
 {
     Ok(Pmt {
         pcr_pid: service.pcr_pid,
-        descriptors: service.program_descriptors.copy()?,
         components: service.components.copy()?,
     })
 }

@@ -1,4 +1,5 @@
 pub mod Entries
+pub mod First
 pub mod Laws
 pub mod EntryRows
 pub mod Pat

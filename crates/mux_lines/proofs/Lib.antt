@@ -1,3 +1,0 @@
-pub mod EightFields
-pub mod GroupFacts
-pub mod FineFields
