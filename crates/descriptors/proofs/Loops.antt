@@ -1,10 +1,18 @@
--- Lists of descriptors: bytes are the descriptors of one list at most.
-use Rattle.std.proofs.Common.{◌≡◌, ℕ, ◌+◌, ◌<◌, ◌≤◌, List, [], ◌∷◌, ◌++◌, length, get_or, refl, sym, ap, ◌∙◌, append_assoc, arith, length-append}
+-- Lists of descriptors: how many bytes they have, and that bytes are the descriptors of one list at most.
+use Rattle.std.proofs.Common.{◌≡◌, ℕ, ◌+◌, ◌<◌, ◌≤◌, List, [], ◌∷◌, ◌++◌, length, get_or, sum_by, refl, sym, ap, ◌∙◌, append_assoc, arith, length-append}
 use Rattle.std.specs.List.{flat_map}
 use Rattle.std.proofs.lemmas.List.{append-nil}
+use Rattle.std.proofs.lemmas.List.Concat.{length-flat_map}
 use Rattle.si_lists.proofs.Lists.{same_parts}
 use Rattle.guide_model.specs.declared.descriptor.RawDesc.{RawDesc}
-use Rattle.descriptors.specs.Descriptors.{descriptor_bytes, AreDescriptors, DescriptorsAreUnique}
+use Rattle.guide_model.specs.Descriptors.{descriptors_size}
+use Rattle.descriptors.specs.Descriptors.{descriptor_bytes, descriptors_bytes, AreDescriptors, DescriptorsAreUnique}
+
+length-descriptor_bytes : (d : RawDesc) → length (descriptor_bytes d) ≡ 2 + length d.body
+length-descriptor_bytes d = omega arith
+
+pub length-descriptors_bytes : (ds : List RawDesc) → length (descriptors_bytes ds) ≡ descriptors_size ds
+length-descriptors_bytes ds = length-flat_map descriptor_bytes ds ∙ (λ i. sum_by (λ (d : RawDesc). length-descriptor_bytes d i) ds)
 
 same_desc : (a b : RawDesc) → a.tag ≡ b.tag → a.body ≡ b.body → a ≡ b
 same_desc a b t e = ap (λ n. record { tag = n; body = a.body }) t ∙ ap (λ xs. record { tag = b.tag; body = xs }) e

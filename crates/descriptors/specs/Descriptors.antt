@@ -11,6 +11,13 @@ descriptor tag body = tag ∷ with_length body
 abbrev pub descriptor_bytes : RawDesc → List ℕ
 descriptor_bytes d = descriptor d.tag d.body
 
+abbrev pub descriptors_bytes : List RawDesc → List ℕ
+descriptors_bytes descs = flat_map descriptor_bytes descs
+
+-- its body fits the length of 8 bits
+abbrev pub FitsDescriptor : RawDesc → Type 0
+FitsDescriptor d = length d.body < 256
+
 -- The bytes are just these descriptors, and each length fits its field of 8 bits.
 pub record AreDescriptors (bytes : List ℕ) (descs : List RawDesc) : Type 0 where
   pub whole : bytes ≡ flat_map descriptor_bytes descs

@@ -1,5 +1,5 @@
 -- ISO_639_language_descriptor: the languages of a component (ISO/IEC 13818-1, 2.6.18).
-use Rattle.std.specs.Prelude.{◌≡◌, ℕ, List, [], ◌∷◌, ◌++◌, length, Option, Some, None}
+use Rattle.std.specs.Prelude.{◌≡◌, ◌==◌, ◌&&◌, ℕ, Bool, List, [], ◌∷◌, ◌++◌, length, slice_index, Option, Some, None}
 use Rattle.std.specs.Option.{option_map}
 use Rattle.std.specs.List.{flat_map, AllByRecursion}
 use Rattle.descriptors.specs.Descriptors.{descriptor}
@@ -25,6 +25,10 @@ languages_in (a ∷ []) = None
 languages_in (a ∷ b ∷ []) = None
 languages_in (a ∷ b ∷ c ∷ []) = None
 languages_in (a ∷ b ∷ c ∷ audio ∷ rest) = option_map (λ languages. (a ∷ b ∷ c ∷ []) ∷ languages) (languages_in rest)
+
+-- one entry, whose audio_type is 0: a language shows it whole
+abbrev pub is_one_language : List ℕ → Bool
+is_one_language body = length body == 4 && slice_index body 3 == 0
 
 -- ---- laws
 

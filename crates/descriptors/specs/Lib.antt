@@ -12,4 +12,5 @@ pub mod ExtendedEvent
 pub mod Content
 pub mod ParentalRating
 pub mod EventDescriptors
+pub mod First
 pub mod EventRows

@@ -1,5 +1,5 @@
 -- parental_rating_descriptor: ratings by country (EN 300 468, 6.2.28).
-use Rattle.std.specs.Prelude.{◌≡◌, ℕ, List, [], ◌∷◌, ◌++◌, length, Option, Some, None}
+use Rattle.std.specs.Prelude.{◌≡◌, ◌==◌, ℕ, Bool, List, [], ◌∷◌, ◌++◌, length, Option, Some, None}
 use Rattle.std.specs.Option.{option_map}
 use Rattle.std.specs.List.{flat_map, AllByRecursion}
 use Rattle.guide_model.specs.declared.event.Rating.{Rating}
@@ -29,6 +29,10 @@ parental_rating_in (a ∷ []) = None
 parental_rating_in (a ∷ b ∷ []) = None
 parental_rating_in (a ∷ b ∷ c ∷ []) = None
 parental_rating_in (a ∷ b ∷ c ∷ value ∷ rest) = option_map (λ ratings. rating_of a b c value ∷ ratings) (parental_rating_in rest)
+
+-- one entry: a rating shows it whole
+abbrev pub is_one_rating : List ℕ → Bool
+is_one_rating body = length body == 4
 
 -- ---- laws
 

@@ -1,7 +1,9 @@
 // Descriptors, one after the other.
-ghost use Rattle.std.specs.Prelude.{◌≡◌, List, IfOk, IfSome, IfNone};
+ghost use Rattle.std.specs.Prelude.{◌≡◌, ◌≤◌, ◌++◌, List, IfOk, IfSome, IfNone, OnOk};
+ghost use Rattle.std.specs.List.{All};
+ghost use Rattle.guide_model.specs.Descriptors.{descriptors_size};
 ghost use Rattle.guide_model.specs.declared.descriptor.RawDesc.{RawDesc};
-ghost use Rattle.descriptors.specs.Descriptors.{AreDescriptors};
+ghost use Rattle.descriptors.specs.Descriptors.{AreDescriptors, FitsDescriptor, descriptor_bytes, descriptors_bytes};
 
 use guide_model::{RawDesc, RawDescs};
 use si_base::Items;
@@ -29,4 +31,37 @@ pub fn read_descriptors(alloc: Global, bytes: &[u8]) -> Result<Option<RawDescs>,
         return Ok(None);
     }
     Ok(Some(Items::of(descs)))
+}
+
+/// Appends descriptors in their order (EN 300 468, 6.1). Each needs a body of at most 255 bytes, so that its length fits its field.
+/// Want of memory may leave a part of them.
+pub fn write_descriptors(descs: &[RawDesc], out: &mut Vec<u8>) -> Result<(), AllocError>
+    requires { All FitsDescriptor descs.now }
+    ensures { OnOk result (out.new.items ≡ out.old.items ++ descriptors_bytes descs.now) }
+{
+    for desc in descs {
+        write_descriptor(desc, out)?;
+    }
+    Ok(())
+}
+
+// Appends a descriptor; want of memory may leave a part of it.
+fn write_descriptor(desc: &RawDesc, out: &mut Vec<u8>) -> Result<(), AllocError>
+    requires { FitsDescriptor desc.now }
+    ensures { OnOk result (out.new.items ≡ out.old.items ++ descriptor_bytes desc.now) }
+{
+    out.extend_from_slice(&[desc.tag, desc.body.len() as u8])?;
+    out.extend_from_slice(desc.body.as_slice())
+}
+
+/// How many bytes descriptors have. It needs a loop of descriptors that fits its length of 12 bits, and takes no memory.
+pub fn descriptors_len(descs: &[RawDesc]) -> usize
+    requires { descriptors_size descs.now ≤ 4095 }
+    ensures { result ≡ descriptors_size descs.now }
+{
+    let mut len = 0;
+    for desc in descs {
+        len += 2 + desc.body.len();
+    }
+    len
 }

@@ -1,6 +1,6 @@
 // What descriptions of a multiplex give.
 use crate::words::{put_moment, put_read_stop};
-use guide_model::{Cable, Component, Offset};
+use guide_model::{Cable, Component, Offset, RawDesc, RawDescs};
 use mux_config::{MuxFault, MuxStop, Word, read_mux};
 use mux_model::{Mux, MuxService, Other, RemoteService};
 use row_lines::{Buffer, Lines, say, text_of};
@@ -12,6 +12,7 @@ fn put_fault(out: &mut Buffer, fault: MuxFault) {
         MuxFault::Line(line) => say!(out; "line {line} is no record"),
         MuxFault::Range(line) => say!(out; "line {line} is out of range"),
         MuxFault::Twice(line, earlier) => say!(out; "line {line} repeats line {earlier}"),
+        MuxFault::Full(line) => say!(out; "line {line} has no room"),
         MuxFault::Missing(Word::Network) => out.say("network missing"),
         MuxFault::Missing(Word::Stream) => out.say("stream missing"),
         MuxFault::Missing(Word::Service) => out.say("service missing"),
@@ -40,6 +41,24 @@ fn put_component(out: &mut Buffer, component: &Component) {
     if let Some(language) = &component.language {
         say!(out; " in {}", text_of(language));
     }
+    put_further(out, ", ", &component.descriptors);
+}
+
+// A descriptor: its tag, its length, and at most nine bytes of its body.
+fn put_descriptor(out: &mut Buffer, place: &str, descriptor: &RawDesc) {
+    let body = descriptor.body.as_slice();
+    say!(out; "{place}descriptor {:02x} {} ", descriptor.tag, body.len());
+    for byte in body.iter().take(9) {
+        say!(out; "{byte:02x}");
+    }
+}
+
+// Further descriptors, in their order.
+fn put_further(out: &mut Buffer, place: &str, descriptors: &RawDescs) {
+    let descriptors = descriptors.as_slice();
+    for descriptor in descriptors {
+        put_descriptor(out, place, descriptor);
+    }
 }
 
 // A service; of more than nine components their number.
@@ -47,6 +66,8 @@ fn put_service(out: &mut Buffer, service: &MuxService) {
     let (provider, name) = (service.provider.as_str(), service.name.as_str());
     say!(out; "; service {} of feed {}, type {}", service.service, service.feed, service.kind);
     say!(out; ", PMT {}, PCR {}, \"{provider}\" \"{name}\"", service.pmt_pid, service.pcr_pid);
+    put_further(out, ", ", &service.descriptors);
+    put_further(out, ", program ", &service.program_descriptors);
     let components = service.components.as_slice();
     if 9 < components.len() {
         return say!(out; ", {} components", components.len());
@@ -107,6 +128,8 @@ fn put_mux(out: &mut Buffer, mux: &Mux) {
     put_each(out, mux.offsets.as_slice(), "offsets", put_offset);
     put_each(out, mux.services.as_slice(), "services", put_service);
     put_each(out, mux.others.as_slice(), "other streams", put_other);
+    put_further(out, "; network ", &mux.network_descriptors);
+    put_further(out, "; stream ", &mux.stream_descriptors);
 }
 
 // The line after the description, where there is one.

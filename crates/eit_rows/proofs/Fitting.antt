@@ -1,8 +1,14 @@
--- What the tests of events tell.
-use Rattle.std.proofs.Common.{◌≡◌, ℕ, suc, ◌+◌, ◌<◌, ◌≤◌, inl, inr, List, [], ◌∷◌, length, get_or, subst, arith, eqb}
+-- What the tests of events, and of what tables hold, tell.
+use Rattle.std.proofs.Common.{◌≡◌, ℕ, suc, ◌+◌, ◌<◌, ◌≤◌, inl, inr, List, [], ◌∷◌, length, get_or, refl, subst, arith, eqb}
 use Rattle.std.specs.Prelude.{sum_by}
-use Rattle.std.specs.List.{AllByRecursion}
+use Rattle.std.specs.List.{All, AllByRecursion}
 use Rattle.std.proofs.lemmas.Bool.{cases_Bool}
+use Rattle.std.proofs.lemmas.List.Elements.{All-nil}
+use Rattle.guide_model.specs.declared.descriptor.RawDesc.{RawDesc}
+use Rattle.guide_model.specs.Descriptors.{descriptors_size}
+use Rattle.descriptors.specs.Descriptors.{FitsDescriptor}
+use Rattle.table_bodies.specs.declared.nit.NitStream.{NitStream}
+use Rattle.table_bodies.specs.Nit.{FitsStream, stream_size}
 use Rattle.std.proofs.lemmas.List.Sums.{sum_by-cons}
 use Rattle.si_lists.proofs.RunFacts.{runs_few}
 use Rattle.eit_segments.specs.declared.event.EventAt.{EventAt}
@@ -67,3 +73,18 @@ few_fit events few block = runs_few (λ (event : EventAt). event.size) 4078 8 (i
 
 pub small_fit : (events : List EventAt) → AllByRecursion (λ (event : EventAt). event.size ≤ 1338) events → sum_by (λ (event : EventAt). event.size) events ≤ 20000 → FitSegments events
 small_fit events small bytes block = block_fits block events small (omega (arith, bytes, block_bytes block events))
+
+-- ---- tables
+
+-- a stream that fits, without further descriptors
+abbrev pub IsSmallStream : NitStream → Type 0
+IsSmallStream s = FitsStream s × (stream_size s ≤ 276)
+
+-- without a descriptor each fits
+pub none_fit : (ds : List RawDesc) → length ds ≡ 0 → All FitsDescriptor ds
+none_fit [] none = All-nil FitsDescriptor
+none_fit (d ∷ ds) none = cc none
+
+pub none_size : (ds : List RawDesc) → length ds ≡ 0 → descriptors_size ds ≡ 0
+none_size [] none = refl
+none_size (d ∷ ds) none = cc none

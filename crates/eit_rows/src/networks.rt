@@ -1,5 +1,5 @@
 // The network information table, both ways.
-ghost use Rattle.std.specs.Prelude.{◌<◌, sum_by, IsTrue};
+ghost use Rattle.std.specs.Prelude.{◌<◌, ◌≤◌, sum_by, IsTrue};
 ghost use Rattle.std.specs.List.{All};
 ghost use Rattle.table_bodies.specs.Nit.{FitsStream, stream_size};
 
@@ -28,14 +28,16 @@ fn stream_in(row: &mut Row) -> Option<NitStream> {
     })
 }
 
-// Whether its cable and its services fit their descriptors.
+// Whether its cable and its services fit their descriptors, and it has no further ones.
 fn fits_stream(stream: &NitStream) -> bool
-    ensures { IsTrue result → FitsStream stream.now }
+    ensures fits { IsTrue result → FitsStream stream.now }
+    ensures few { IsTrue result → stream_size stream.now ≤ 276 }
 {
-    match &stream.cable {
-        None => stream.services.len() <= 85,
-        Some(cable) => fits(cable) && stream.services.len() <= 85,
-    }
+    let fits_cable = match &stream.cable {
+        None => true,
+        Some(cable) => fits(cable),
+    };
+    fits_cable && stream.services.len() <= 85 && stream.descriptors.is_empty()
 }
 
 // Whether each fits, and all the loop, which takes 14 in any case.

@@ -2,9 +2,9 @@
 ghost use Rattle.std.specs.Prelude.{IsTrue};
 ghost use Rattle.std.specs.List.{All};
 ghost use Rattle.table_bodies.specs.Pat.{HasPid};
-ghost use Rattle.table_bodies.specs.Pmt.{HasPid as HasPidOf};
+ghost use Rattle.table_bodies.specs.Pmt.{IsWritable};
 
-use guide_model::Component;
+use guide_model::{Component, RawDescs};
 use row_lines::{Row, code_in, each_word, put_code, put_made, put_read, say};
 use si_base::Items;
 use std::fmt::Write;
@@ -61,14 +61,21 @@ fn component_in(row: &mut Row, word: &str) -> Component {
         } else {
             Some(code_in(row, language))
         },
+        descriptors: RawDescs::new(row.alloc()),
     }
 }
 
-// The same of components.
-fn are_on_pids(components: &[Component]) -> bool
-    ensures { IsTrue result → All HasPidOf components.now }
+// Whether the PID of a component has 13 bits, and it has no further descriptors.
+fn is_plain(component: &Component) -> bool
+    ensures { IsTrue result → IsWritable component.now }
 {
-    components.iter().all(|component| component.pid < 8192)
+    component.pid < 8192 && component.descriptors.is_empty()
+}
+
+fn are_plain(components: &[Component]) -> bool
+    ensures { IsTrue result → All IsWritable components.now }
+{
+    components.iter().all(is_plain)
 }
 
 /// `write_pmt PCR_PID TYPE:PID:LANGUAGE ..`.
@@ -76,9 +83,10 @@ pub fn write_program(row: &mut Row) {
     let pcr_pid = row.short();
     let pmt = Pmt {
         pcr_pid,
+        descriptors: RawDescs::new(row.alloc()),
         components: Items::of(each_word(row, component_in)),
     };
-    if pcr_pid >= 8192 || !are_on_pids(pmt.components.as_slice()) {
+    if pcr_pid >= 8192 || !are_plain(pmt.components.as_slice()) {
         return row.refuse();
     }
     put_made(row, write_pmt(row.alloc(), &pmt));

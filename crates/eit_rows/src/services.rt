@@ -36,12 +36,12 @@ fn service_in(row: &mut Row) -> Option<SdtService> {
     })
 }
 
-// Whether its texts fit their descriptor.
+// Whether its texts fit their descriptor, and it has no further ones.
 fn fits_service(service: &SdtService) -> bool
     ensures { IsTrue result → FitsService service.now }
 {
     let provider = service.provider.coded_len();
-    provider <= 252 && service.name.coded_len() <= 252 - provider
+    provider <= 252 && service.name.coded_len() <= 252 - provider && service.descriptors.is_empty()
 }
 
 fn fit(services: &[SdtService]) -> bool

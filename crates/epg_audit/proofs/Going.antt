@@ -30,8 +30,8 @@ use Rattle.epg_play.specs.Items.{IsAt, ItemLeft, Stands, StepAt, Stops, Went}
 use Rattle.epg_play.proofs.RunFacts.{none_raised}
 use Rattle.epg_play.specs.Leaves.{status_for}
 use Rattle.epg_play.specs.Played.{IsItemStop}
-use Rattle.epg_audit.specs.Audits.{AuditDid, ScriptStops, desk_airings}
-use Rattle.epg_audit.specs.Checks.{AreTaken, Checks, Follows, GivesEnd, GivesNoMore}
+use Rattle.epg_audit.specs.Audits.{AuditDid, DeskAudited, ScriptStops, desk_airings}
+use Rattle.epg_audit.specs.Checks.{AreTaken, Checks, Ends, Follows, GivesEnd, GivesNoMore}
 use Rattle.epg_audit.specs.Recorded.{BeginsWithAir, IsFaulty, passed_over}
 use Rattle.epg_audit.proofs.Faults.{cut_short, differs_at_end, past_limit, recorded}
 use Rattle.epg_audit.proofs.Pieces.{front_is, packets_parted, packets_taken}
@@ -272,3 +272,22 @@ module _ {S F : Type 0} (left : S → Option (List ℕ)) (gives : F → Option (
     follows = λ nulls none. subst (λ (l : List AiredTables). Follows i.now.mux.rate nulls gives start later l c2 passed2)
         (added i later c2 passed2 (Ok tt) checks) (checked i later c2 passed2 (Ok tt) checks nulls none);
   }
+
+  -- the script is at its end, and the packets after its last cycle were looked at
+  pub audits_end : (nulls : Bool) → passed_old ≡ passed_over nulls []
+      → (i : ItemLeft left first new before a.state next (Ok item.End)) → next.keeps ≡ true → IsAtEnd c
+      → (later : PacketReading F) (passed2 : Option ℕ) (result : Result (Unit {0}) Status)
+      → ((rate : Option ℕ) (nulls : Bool) (start : PacketReading F) (past : List AiredTables) (c : Auditing)
+      → Follows rate nulls gives start mid past c passed
+      → Ends rate nulls gives start later past c passed2 result)
+      → DeskAudited nulls left gives first new start old next result
+  audits_end nulls none i keeps at_end later passed2 result checks =
+      let follows = subst (λ (d : DeskState). Follows d.mux.rate nulls gives start mid (desk_airings d) c passed)
+      (sym i.did) (a.follows nulls none) in
+      let ends = checks i.now.mux.rate nulls start (desk_airings i.now) c follows in
+      record {
+        state = i.now;
+        made = own_entries old.desk.mux i.now next i.at keeps (shift ∙ a.shift);
+        did = end_did nulls left gives first new start ends.last later before i.now c passed2 result
+            ends.follows at_end (own_stops i.now (Ok tt) i.goes_on) ends.gives;
+      }

@@ -9,9 +9,9 @@ use Rattle.si_causes.specs.Text.{AtEnd, lines_left, text_lines, text_limit}
 use Rattle.input_lines.specs.Lines.{is_passed, record_lines}
 use Rattle.mux_config.specs.declared.fault.MuxFault.{MuxFault}
 use Rattle.mux_model.specs.declared.mux.Mux.{Mux}
-use Rattle.mux_config.specs.declared.record.Numbered.{Numbered}
+use Rattle.mux_lines.specs.declared.record.Numbered.{Numbered}
 use Rattle.mux_config.specs.Descriptions.{Description, and_found, described_from, ended, fault_of, is_end, unless}
-use Rattle.mux_config.specs.Fields.{found_line}
+use Rattle.mux_lines.specs.Fields.{found_line}
 use Rattle.input_lines.specs.Ahead.{Ends, tail_of, Ahead, Came, Found, Row, Tail}
 use Rattle.input_lines.specs.Ahead as reading
 use Rattle.journal_model.specs.declared.step.Outcome.{Outcome}

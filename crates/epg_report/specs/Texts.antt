@@ -3,7 +3,7 @@ use Rattle.std.specs.Prelude.{ℕ, zero, suc, ◌++◌, Bool, true, false, List,
 use Rattle.mux_config.specs.declared.fault.Word.{Word}
 use Rattle.mux_config.specs.declared.fault.Word.TheVariants.{Network, Stream, Service, End}
 use Rattle.mux_config.specs.declared.fault.MuxFault.{MuxFault}
-use Rattle.mux_config.specs.declared.fault.MuxFault.TheVariants.{Line, Range, Twice, Missing}
+use Rattle.mux_config.specs.declared.fault.MuxFault.TheVariants.{Line, Range, Twice, Full, Missing}
 use Rattle.journal_text.specs.Entries.{outcome_text}
 use Rattle.journal_model.specs.Steps.{IsInWindow}
 use Rattle.air_model.specs.declared.rule.Rule.{Rule}
@@ -29,6 +29,7 @@ abbrev pub mux_fault_text : MuxFault → List ℕ
 mux_fault_text (Line n) = codes "mux line " ++ decimal n ++ codes " unreadable"
 mux_fault_text (Range n) = codes "mux line " ++ decimal n ++ codes " out of range"
 mux_fault_text (Twice n earlier) = codes "mux line " ++ decimal n ++ codes " repeats line " ++ decimal earlier
+mux_fault_text (Full n) = codes "mux line " ++ decimal n ++ codes " has no room"
 mux_fault_text (Missing word) = codes "mux lacks " ++ word_text word
 
 abbrev pub origin_text : Origin → List ℕ

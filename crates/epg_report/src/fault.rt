@@ -51,6 +51,10 @@ fn put_mux_fault(alloc: Global, out: &mut Vec<u8>, fault: MuxFault) -> Result<()
             out.extend_from_slice(b" repeats line ")?;
             put_number(alloc, out, earlier)
         }
+        MuxFault::Full(line) => {
+            put_mux_line(alloc, out, line)?;
+            out.extend_from_slice(b" has no room")
+        }
         MuxFault::Missing(word) => {
             out.extend_from_slice(b"mux lacks ")?;
             out.extend_from_slice(word_of(word).as_bytes())

@@ -27,6 +27,8 @@ soak_service i = record {
   provider = codes "Maker";
   name = codes "Channel " ++ decimal i;
   components = [];
+  descriptors = [];
+  program_descriptors = [];
 }
 
 -- it starts at 1993-10-13T00:00:00Z

@@ -1,5 +1,6 @@
 pub mod Coding
 pub mod Control
+pub mod Descriptors
 pub mod Stores
 pub mod Decoding
 pub mod Cutting

@@ -1,4 +1,5 @@
 // What a multiplex sends beside its events.
+use crate::descriptor::RawDescs;
 use si_base::{Copies, Items};
 use std::alloc::AllocError;
 
@@ -13,13 +14,14 @@ pub struct Cable {
     pub fec_inner: u8,
 }
 
-/// An elementary stream of a service (ISO/IEC 13818-1, 2.4.4.8): its stream_type, its PID and, where it is given,
-/// its language (three letters).
-#[derive(Clone, Copy, PartialEq, Eq)]
+/// An elementary stream of a service (ISO/IEC 13818-1, 2.4.4.8): its stream_type, its PID, where it is given its
+/// language (three letters), and its further descriptors.
+#[derive(Drop)]
 pub struct Component {
     pub stream_type: u8,
     pub pid: u16,
     pub language: Option<[u8; 3]>,
+    pub descriptors: RawDescs,
 }
 
 /// Components of a service, in the order in which they are given.
@@ -27,6 +29,11 @@ pub type Components = Items<Component>;
 
 impl Copies for Component {
     fn copy(&self) -> Result<Component, AllocError> {
-        Ok(*self)
+        Ok(Component {
+            stream_type: self.stream_type,
+            pid: self.pid,
+            language: self.language,
+            descriptors: self.descriptors.copy()?,
+        })
     }
 }

@@ -3,6 +3,8 @@ use Rattle.std.proofs.Common.{◌≡◌, ℕ, ◌==◌, ◌&&◌, List, [], ◌�
 use Rattle.std.specs.Prelude.{not, filter, if◌then◌else◌}
 use Rattle.std.specs.List.{AllByRecursion}
 use Rattle.std.proofs.lemmas.Bool.Decides.{nat_tests}
+use Rattle.std.proofs.lemmas.List.Elements.{All-nil}
+use Rattle.descriptors.specs.Descriptors.{FitsDescriptor}
 use Rattle.si_lists.proofs.Lists.{all_map, all_to_map}
 use Rattle.si_lists.proofs.Filters.{all_stay}
 use Rattle.guide_model.specs.declared.shown.Shown.TheVariants.{Text}
@@ -30,9 +32,9 @@ use Rattle.guide_screen.specs.View.{sections, table_at}
 use Rattle.guide_screen.specs.Reading.{services_in}
 use Rattle.guide_screen.specs.Needs.{by_service}
 use Rattle.guide_screen.specs.Screen.{cable_in, descriptors_in, event_at, schedule_of, remote_service, remote_services, other_stream, other_streams, is_other}
-use Rattle.publication.specs.Network.{remote_kind, remote_kinds, stream_of, other_stream as stream_sent}
+use Rattle.publication.specs.Network.{stream_of, other_stream as stream_sent}
 use Rattle.publication.specs.Parts.{part_of}
-use Rattle.publication.specs.Sdt.{named_service, sdt_services}
+use Rattle.publication.specs.Sdt.{remote_entries, remote_entry, named_service, sdt_services}
 use Rattle.publication.specs.Tables.{other_sdt_key, other_sdt_table, bearer_of}
 use Rattle.publication.proofs.PartFacts.{part_id}
 use Rattle.journal_air.specs.Screen.{now_shown, next_shown, part_shown, other_shown}
@@ -86,7 +88,7 @@ module _ (guide : Guide) (content : Key → Option Content) (o : Other) (ids : H
       events = events;
     }
 
-    remote_is : remote_service content sdt (named_service guide (remote_kind s)) ≡ part_shown guide s
+    remote_is : remote_service content sdt (named_service guide (remote_entry s)) ≡ part_shown guide s
     remote_is =
         let next = event_at 1 (table_at content sdt s.service 0x4F) in
         let events = schedule_of content sdt s.service 0x60 0x6F in
@@ -94,7 +96,7 @@ module _ (guide : Guide) (content : Key → Option Content) (o : Other) (ids : H
         ∙ ap (λ (x : Option ScreenEvent). made (now_shown moment g) x events) (next_is (bearer_of o) stream_ids higher moment content s.service g (part_id guide s.service) has)
         ∙ ap (made (now_shown moment g) (next_shown moment g)) (events_are (bearer_of o) stream_ids higher moment content s.service g (part_id guide s.service) has)
 
-  remotes_are : (ss : List RemoteService) → AllByRecursion HasRemote ss → map (remote_service content sdt) (sdt_services guide (map remote_kind ss)) ≡ map (part_shown guide) ss
+  remotes_are : (ss : List RemoteService) → AllByRecursion HasRemote ss → map (remote_service content sdt) (sdt_services guide (map remote_entry ss)) ≡ map (part_shown guide) ss
   remotes_are [] has = refl
   remotes_are (s ∷ ss) has = ap₂ (λ (x : ScreenRemote) (l : List ScreenRemote). x ∷ l) (remote_is s has.0) (remotes_are ss has.1)
 
@@ -112,30 +114,30 @@ module _ (guide : Guide) (content : Key → Option Content) (o : Other) (ids : H
       (one, remotes_have ss can.1 presents.1 tables.1)
 
   remotes_named : (ss : List RemoteService) → AllByRecursion IsSoundRemote ss → AllByRecursion (λ (s : RemoteService). CanBeShown (part_of guide s.service)) ss
-      → AllByRecursion (IsNamed guide) (map remote_kind ss)
+      → AllByRecursion (IsNamed guide) (map remote_entry ss)
   remotes_named [] sound can = tt
   remotes_named (s ∷ ss) sound can =
-      (record { service = omega (arith, sound.0.service.1); within = can.0.within; kept = can.0.kept }, remotes_named ss sound.1 can.1)
+      (record { small = record { bodies = All-nil FitsDescriptor; room = omega arith }; service = omega (arith, sound.0.service.1); within = can.0.within; kept = can.0.kept }, remotes_named ss sound.1 can.1)
 
   services_are : SdtReadsBack → IsGuideWithin guide → HasOther guide content o → remote_services content sdt ≡ map (part_shown guide) o.services
   services_are back within has =
       ap (λ (x : Option Content). map (remote_service content sdt) (by_service (services_in (sections x)))) has.sdt
       ∙ ap (λ (l : List SdtService). map (remote_service content sdt) (by_service l))
-      (sdt_said back o.original guide (remote_kinds o) ids.original within (remotes_named o.services has.sound.services has.can))
+      (sdt_said back o.original guide (remote_entries o) ids.original within (remotes_named o.services has.sound.services has.can))
       ∙ ap (map (remote_service content sdt)) (remote_in_order guide o has.sound.ascend)
       ∙ remotes_are o.services (remotes_have o.services has.can has.presents has.tables)
 
 abbrev other_with : Other → Option Cable → List RawDesc → List ScreenRemote → ScreenOther
 other_with o cable further services = record { stream = o.stream; original = o.original; cable = cable; descriptors = further; services = services }
 
--- no entry has further descriptors
-abbrev NoneFurther : List NitStream → Type 0
-NoneFurther streams = (a b : ℕ) → descriptors_in a b streams ≡ []
+-- the entry of a stream has no further descriptors
+abbrev NoneFurther : List NitStream → Other → Type 0
+NoneFurther streams o = descriptors_in o.stream o.original streams ≡ []
 
-other_is : SdtReadsBack → (guide : Guide) → IsGuideWithin guide → (content : Key → Option Content) (streams : List NitStream) (o : Other) → NoneFurther streams → HasOther guide content o
+other_is : SdtReadsBack → (guide : Guide) → IsGuideWithin guide → (content : Key → Option Content) (streams : List NitStream) (o : Other) → NoneFurther streams o → HasOther guide content o
     → cable_in o.stream o.original streams ≡ o.cable → other_stream content streams (other_sdt_key o) ≡ other_shown guide o
 other_is back guide within content streams o none has cable =
-    (λ i. other_with o (cable i) (none o.stream o.original i) (services_are guide content o has.ids back within has i))
+    (λ i. other_with o (cable i) (none i) (services_are guide content o has.ids back within has i))
 
 -- ---- all of them
 
@@ -151,12 +153,12 @@ others_stay mux os apart =
     turned : (a b c d : ℕ) → (a == c && b == d) ≡ false → (c == a && d == b) ≡ false
     turned a b c d e = grind (arith, nat_tests)
 
-others_each : SdtReadsBack → (guide : Guide) → IsGuideWithin guide → (content : Key → Option Content) (streams : List NitStream) → NoneFurther streams → (os : List Other) → AllByRecursion (HasOther guide content) os
+others_each : SdtReadsBack → (guide : Guide) → IsGuideWithin guide → (content : Key → Option Content) (streams : List NitStream) (os : List Other) → AllByRecursion (NoneFurther streams) os → AllByRecursion (HasOther guide content) os
     → AllByRecursion (λ (o : Other). cable_in o.stream o.original streams ≡ o.cable) os → map (other_stream content streams) (map other_sdt_key os) ≡ map (other_shown guide) os
-others_each back guide within content streams none [] has cables = refl
-others_each back guide within content streams none (o ∷ os) has cables =
-    ap₂ (λ (x : ScreenOther) (l : List ScreenOther). x ∷ l) (other_is back guide within content streams o none has.0 cables.0)
-    (others_each back guide within content streams none os has.1 cables.1)
+others_each back guide within content streams [] none has cables = refl
+others_each back guide within content streams (o ∷ os) none has cables =
+    ap₂ (λ (x : ScreenOther) (l : List ScreenOther). x ∷ l) (other_is back guide within content streams o none.0 has.0 cables.0)
+    (others_each back guide within content streams os none.1 has.1 cables.1)
 
 -- the entry of the multiplex itself is passed over
 cables_found : (mux : Mux) (os all : List Other) → AllByRecursion (λ (o : Other). has_stream_ids mux.stream mux.original o ≡ false) os
@@ -168,10 +170,18 @@ cables_found mux (o ∷ os) all apart said = (
   cables_found mux os all apart.1 said.1,
 )
 
+further_none : (mux : Mux) (os all : List Other) → AllByRecursion (λ (o : Other). has_stream_ids mux.stream mux.original o ≡ false) os
+    → AllByRecursion (NoneFurther (stream_of mux ∷ map stream_sent all)) os
+further_none mux [] all apart = tt
+further_none mux (o ∷ os) all apart = (
+  ap (λ (b : Bool). if b then mux.stream_descriptors else descriptors_in o.stream o.original (map stream_sent all)) apart.0 ∙ none_further all o.stream o.original,
+  further_none mux os all apart.1,
+)
+
 pub others_are : SdtReadsBack → (mux : Mux) → IsSoundWithIds mux → (guide : Guide) → IsGuideWithin guide → (content : Key → Option Content) → AllByRecursion (HasOther guide content) mux.others
     → other_streams content (stream_of mux ∷ map stream_sent mux.others) mux.stream mux.original (map other_sdt_key mux.others) ≡ map (other_shown guide) mux.others
 others_are back mux sound guide within content has =
     let streams : List NitStream = stream_of mux ∷ map stream_sent mux.others in
     ap (map (other_stream content streams)) (others_stay mux mux.others sound.sound.others.apart)
-    ∙ others_each back guide within content streams (none_further mux) mux.others has
+    ∙ others_each back guide within content streams mux.others (further_none mux mux.others mux.others sound.sound.others.apart) has
     (cables_found mux mux.others mux.others sound.sound.others.apart (cables_said mux.others sound.sound.others.ascend))

@@ -22,7 +22,7 @@ use Rattle.si_lists.proofs.RunFacts.{are_longest}
 use Rattle.table_bodies.specs.Pat.{pat_in, pat_body, FitsProgram}
 use Rattle.table_bodies.specs.Pmt.{pmt_body, pmt_in, shown_pmt}
 use Rattle.table_bodies.proofs.Programs.{pat-reads_back, pmt-reads_back}
-use Rattle.descriptors.specs.declared.service_list.ServiceKind.{ServiceKind}
+use Rattle.publication.specs.declared.sdt.ServiceEntry.{ServiceEntry}
 use Rattle.table_bodies.specs.declared.sdt.SdtService.{SdtService}
 use Rattle.table_bodies.specs.declared.sdt.Sdt.{Sdt}
 use Rattle.table_bodies.specs.Nit.{nit_body, nit_in, FitsStream, HasStreamWidths, NitReadsBack}
@@ -31,10 +31,10 @@ use Rattle.guide_screen.specs.Reading.{services_in}
 use Rattle.guide_screen.specs.Needs.{with_service, by_service}
 use Rattle.guide_screen.specs.Screen.{pid_in, cable_in, descriptors_in}
 use Rattle.publication.specs.Programs.{program_entry, pat_of, pmt_of}
-use Rattle.publication.specs.Network.{nit_of, kind_of, remote_kind, own_kinds, remote_kinds, other_stream}
+use Rattle.publication.specs.Network.{nit_of, kind_of, remote_kind, other_stream}
 use Rattle.publication.specs.Parts.{part_of}
-use Rattle.publication.specs.Sdt.{named_service, sdt_services, service_size, section_body, numbered, sdt_sections}
-use Rattle.publication.proofs.ProgramFacts.{pmt_fits, name_fits, streams_fit, streams_short}
+use Rattle.publication.specs.Sdt.{HasSmallDescriptors, entry_of, own_entries, remote_entries, remote_entry, named_service, sdt_services, service_size, section_body, numbered, sdt_sections}
+use Rattle.publication.proofs.ProgramFacts.{network_fits, no_cable, pmt_fits, streams_fit, streams_short}
 use Rattle.publication.proofs.SdtFacts.{service_fits, services_fit}
 
 -- ---- programs
@@ -73,10 +73,18 @@ pids_said (s ∷ ss) up = (
 pub nit_said : NitReadsBack → (mux : Mux) → IsSoundWithIds mux → IsKept mux.network_name → nit_in (nit_body (nit_of mux)) ≡ Some (nit_of mux)
 nit_said back mux sound kept =
     back (nit_of mux) (record {
-      no_further = refl;
-      name = name_fits mux sound.sound;
+      room = network_fits mux sound.sound;
       shown = decoded-coded mux.network_name kept;
-      streams = (record { stream = sound.stream; original = sound.original; services = kinds_fit mux.services sound.sound.services; fits = fits.0; no_further = refl }, others_fit mux.others sound.others sound.sound.others.each fits.1);
+      streams = (
+        record {
+          stream = sound.stream;
+          original = sound.original;
+          services = kinds_fit mux.services sound.sound.services;
+          fits = fits.0;
+          no_cable = no_cable mux.stream_descriptors sound.sound.stream_descriptors;
+        },
+        others_fit mux.others sound.others sound.sound.others.each fits.1,
+      );
       within = omega (arith, streams_short mux sound.sound);
     })
   where
@@ -94,26 +102,27 @@ nit_said back mux sound kept =
     others_fit : (os : List Other) → AllByRecursion HasStreamIds os → AllByRecursion IsSoundOther os → AllByRecursion FitsStream (map other_stream os) → AllByRecursion HasStreamWidths (map other_stream os)
     others_fit [] ids sound fit = tt
     others_fit (o ∷ os) ids sound fit =
-        (record { stream = ids.0.stream; original = ids.0.original; services = remotes_fit o.services sound.0.services; fits = fit.0; no_further = refl }, others_fit os ids.1 sound.1 fit.1)
+        (record { stream = ids.0.stream; original = ids.0.original; services = remotes_fit o.services sound.0.services; fits = fit.0; no_cable = tt }, others_fit os ids.1 sound.1 fit.1)
 
 -- ---- services
 
 abbrev pub AreKept : ServiceGuide → Type 0
 AreKept g = IsKept g.provider × IsKept g.name
 
--- a service of the SDT has a service_id of 16 bits, and the guide has a part of it within its limits, with names that may be kept
-pub record IsNamed (guide : Guide) (s : ServiceKind) : Type 0 where
+-- a service of the SDT has a service_id of 16 bits and small descriptors, and the guide has a part of it within its limits, with names that
+-- may be kept
+pub record IsNamed (guide : Guide) (s : ServiceEntry) : Type 0 where
+  pub small : HasSmallDescriptors s
   pub service : s.service < 65536
   pub within : IsServiceWithin (part_of guide s.service)
   pub kept : AreKept (part_of guide s.service)
 
-named_wide : (guide : Guide) (s : ServiceKind) → IsNamed guide s → HasServiceWidths (named_service guide s)
+named_wide : (guide : Guide) (s : ServiceEntry) → IsNamed guide s → HasServiceWidths (named_service guide s)
 named_wide guide s named =
     let g = part_of guide s.service in
     record {
       service = named.service;
-      fits = service_fits s g named.within;
-      no_further = refl;
+      fits = service_fits s g named.within named.small;
       shown = record { provider = decoded-coded g.provider named.kept.0; name = decoded-coded g.name named.kept.1 };
     }
 
@@ -132,12 +141,12 @@ sections_said back original lt n (run ∷ runs) all =
     ap₂ (λ (o : Option Sdt) (l : List SdtService). unwrap_or (option_map (λ (x : Sdt). x.services) o) [] ++ l) said
     (sections_said back original lt (1 + n) runs all.1)
 
-pub sdt_said : SdtReadsBack → (original : ℕ) (guide : Guide) (kinds : List ServiceKind) → original < 65536 → IsGuideWithin guide → AllByRecursion (IsNamed guide) kinds
-    → services_in (sdt_sections original guide kinds) ≡ sdt_services guide kinds
-sdt_said back original guide kinds lt within named =
-    let things : List SdtService = sdt_services guide kinds in
-    let longest = are_longest service_size 1009 things (services_fit guide kinds within) in
-    let wide : AllByRecursion HasServiceWidths things = all_through (IsNamed guide) HasServiceWidths (named_service guide) (named_wide guide) kinds named in
+pub sdt_said : SdtReadsBack → (original : ℕ) (guide : Guide) (entries : List ServiceEntry) → original < 65536 → IsGuideWithin guide → AllByRecursion (IsNamed guide) entries
+    → services_in (sdt_sections original guide entries) ≡ sdt_services guide entries
+sdt_said back original guide entries lt within named =
+    let things : List SdtService = sdt_services guide entries in
+    let longest = are_longest service_size 1009 things (services_fit guide entries within (all_map (IsNamed guide) HasSmallDescriptors (λ s is. is.small) entries named)) in
+    let wide : AllByRecursion HasServiceWidths things = all_through (IsNamed guide) HasServiceWidths (named_service guide) (named_wide guide) entries named in
     sections_said back original lt 0 (longest_runs service_size 1009 things)
     (in_runs HasServiceWidths (longest_runs service_size 1009 things) (subst (AllByRecursion HasServiceWidths) (sym longest.join) wide))
     ∙ longest.join
@@ -148,18 +157,18 @@ abbrev Rise : List SdtService → Type 0
 Rise [] = Unit {0}
 Rise (s ∷ ss) = AllByRecursion (λ (t : SdtService). s.service < t.service) ss × Rise ss
 
-own_rise : (guide : Guide) (ss : List MuxService) → DoAscend ss → Rise (sdt_services guide (map kind_of ss))
+own_rise : (guide : Guide) (ss : List MuxService) → DoAscend ss → Rise (sdt_services guide (map entry_of ss))
 own_rise guide [] up = tt
 own_rise guide (s ∷ ss) up = (
-  all_to_map (λ (t : SdtService). s.service < t.service) (named_service guide) (map kind_of ss) (all_to_map (λ (k : ServiceKind). s.service < k.service) kind_of ss up.0),
+  all_to_map (λ (t : SdtService). s.service < t.service) (named_service guide) (map entry_of ss) (all_to_map (λ (k : ServiceEntry). s.service < k.service) entry_of ss up.0),
   own_rise guide ss up.1,
 )
 
-remote_rise : (guide : Guide) (ss : List RemoteService) → DoCome has_lower_id ss → Rise (sdt_services guide (map remote_kind ss))
+remote_rise : (guide : Guide) (ss : List RemoteService) → DoCome has_lower_id ss → Rise (sdt_services guide (map remote_entry ss))
 remote_rise guide [] up = tt
 remote_rise guide (s ∷ ss) up = (
-  all_to_map (λ (t : SdtService). s.service < t.service) (named_service guide) (map remote_kind ss)
-      (all_to_map (λ (k : ServiceKind). s.service < k.service) remote_kind ss (all_map (λ (t : RemoteService). has_lower_id s t ≡ true) (λ (t : RemoteService). s.service < t.service) (λ t lower. less s.service t.service lower) ss up.0)),
+  all_to_map (λ (t : SdtService). s.service < t.service) (named_service guide) (map remote_entry ss)
+      (all_to_map (λ (k : ServiceEntry). s.service < k.service) remote_entry ss (all_map (λ (t : RemoteService). has_lower_id s t ≡ true) (λ (t : RemoteService). s.service < t.service) (λ t lower. less s.service t.service lower) ss up.0)),
   remote_rise guide ss up.1,
 )
   where
@@ -178,11 +187,11 @@ in_order : (ss : List SdtService) → Rise ss → by_service ss ≡ ss
 in_order [] up = refl
 in_order (s ∷ ss) up = ap (with_service s) (in_order ss up.1) ∙ put_first s ss up.0
 
-pub own_in_order : (mux : Mux) (guide : Guide) → DoAscend mux.services → by_service (sdt_services guide (own_kinds mux)) ≡ sdt_services guide (own_kinds mux)
-own_in_order mux guide up = in_order (sdt_services guide (own_kinds mux)) (own_rise guide mux.services up)
+pub own_in_order : (mux : Mux) (guide : Guide) → DoAscend mux.services → by_service (sdt_services guide (own_entries mux)) ≡ sdt_services guide (own_entries mux)
+own_in_order mux guide up = in_order (sdt_services guide (own_entries mux)) (own_rise guide mux.services up)
 
-pub remote_in_order : (guide : Guide) (other : Other) → DoCome has_lower_id other.services → by_service (sdt_services guide (remote_kinds other)) ≡ sdt_services guide (remote_kinds other)
-remote_in_order guide other up = in_order (sdt_services guide (remote_kinds other)) (remote_rise guide other.services up)
+pub remote_in_order : (guide : Guide) (other : Other) → DoCome has_lower_id other.services → by_service (sdt_services guide (remote_entries other)) ≡ sdt_services guide (remote_entries other)
+remote_in_order guide other up = in_order (sdt_services guide (remote_entries other)) (remote_rise guide other.services up)
 
 -- ---- how streams are sent
 
@@ -203,14 +212,11 @@ cables_said (o ∷ os) up = (
     later : (a b c d : ℕ) → (nat_lt a c || (a == c && nat_lt b d)) ≡ true → (a == c && b == d) ≡ false
     later a b c d before = grind (arith, nat_tests)
 
--- no entry has further descriptors
-pub none_further : (mux : Mux) (a b : ℕ) → descriptors_in a b (nit_of mux).streams ≡ []
-none_further mux a b = either (mux.stream == a && mux.original == b) (descriptors_in a b (map other_stream mux.others)) (others mux.others)
+-- no entry of another stream has further descriptors
+pub none_further : (os : List Other) (a b : ℕ) → descriptors_in a b (map other_stream os) ≡ []
+none_further [] a b = refl
+none_further (o ∷ os) a b = either (o.stream == a && o.original == b) (descriptors_in a b (map other_stream os)) (none_further os a b)
   where
     either : (is : Bool) (ds : List RawDesc) → ds ≡ [] → (if is then [] else ds) ≡ []
     either true ds none = refl
     either false ds none = none
-
-    others : (os : List Other) → descriptors_in a b (map other_stream os) ≡ []
-    others [] = refl
-    others (o ∷ os) = either (o.stream == a && o.original == b) (descriptors_in a b (map other_stream os)) (others os)

@@ -46,18 +46,19 @@ use Rattle.guide_screen.specs.View.{View, sections, sections_at, sdt_behind, sdt
 use Rattle.guide_screen.specs.Reading.{programs_in, services_in, streams_in, value_in}
 use Rattle.guide_screen.specs.Needs.{Want, by_service, last_table, needs, programs_of, schedule_tables, services_of, tables_to, unless, unmet_of, want_pmt, want_service, want_services, want_table, wants}
 use Rattle.guide_screen.specs.Screen.{cable_in, descriptors_in, event_at, heard_by, heard_of, network_descriptors, network_name, other_streams, pid_in, pmt_of, pmt_pid, schedule_of, screen, screen_service}
-use Rattle.publication.specs.Network.{kind_of, own_kinds, other_stream as stream_sent, nit_key, nit_of, nit_table}
+use Rattle.publication.specs.Network.{other_stream as stream_sent, nit_key, nit_of, nit_table}
 use Rattle.publication.specs.Programs.{network_entry, program_entry, pat_of, pat_key, pat_table, pmt_tables}
 use Rattle.publication.specs.Programs as programs
 use Rattle.publication.specs.Laws.{HasPartsOf}
 use Rattle.publication.specs.Parts.{part_of, own_guide, remote_guide}
-use Rattle.publication.specs.Sdt.{sdt_service, named_service, sdt_services}
+use Rattle.publication.specs.Sdt.{entry_of, own_entries, sdt_service, named_service, sdt_services}
 use Rattle.publication.specs.Tables.{HasServicesOf, sdt_key, sdt_table, present_tables, all_near_tables, all_far_tables, other_sdt_table, other_sdt_tables, bearer_of, remote_presents, remote_schedules, all_remote_presents, all_remote_schedules, near_part, far_part}
+use Rattle.publication.proofs.SdtFacts.{small_entry}
 use Rattle.publication.proofs.PartFacts.{part_id, of_parts, of_remote, others_have as others_have_parts}
 use Rattle.journal_air.specs.Screen.{now_shown, next_shown, service_shown, services_shown, screen_of}
 use Rattle.journal_air.specs.PublicationScreenShown.{HasPublication, HasKeptNames}
 use Rattle.journal_air.specs.PublicationScreenLaws.{PublicationIsShown}
-use Rattle.journal_air.proofs.Own.{IsNamed, pat_said, pmt_said, pids_said, nit_said, none_further, sdt_said, own_in_order}
+use Rattle.journal_air.proofs.Own.{IsNamed, pat_said, pmt_said, pids_said, nit_said, sdt_said, own_in_order}
 use Rattle.journal_air.proofs.Events.{HasIds}
 use Rattle.journal_air.proofs.Schedules.{AreSentAt, HasTable, has_tables}
 use Rattle.journal_air.proofs.Held.{Held, CanBeShown, parts_can_be_shown, HasEvents, present_is, now_is, next_is, last_told, events_are}
@@ -117,7 +118,7 @@ module _ (mux : Mux) (ids : HasIds (own mux)) (guide : Guide) (moment : ℕ) (co
       kind = s.kind;
       provider = Text g.provider;
       name = Text g.name;
-      descriptors = [];
+      descriptors = s.descriptors;
       pmt_pid = pid;
       pcr_pid = option_map (λ p. p.pcr_pid) pmt;
       program_descriptors = unwrap_or (option_map (λ p. p.descriptors) pmt) [];
@@ -130,7 +131,7 @@ module _ (mux : Mux) (ids : HasIds (own mux)) (guide : Guide) (moment : ℕ) (co
     pmt_is : pmt_of content s.service (Some s.pmt_pid) ≡ Some (shown_pmt (programs.pmt_of s))
     pmt_is = ap (λ (o : Option Content). value_in pmt_in 0 (sections o)) has.pmt ∙ pmt_said s has.sound
 
-    service_is : (es : List PatEntry) → pmt_pid es s.service ≡ Some s.pmt_pid → screen_service content es sdt (sdt_service (kind_of s) g) ≡ service_shown moment s g
+    service_is : (es : List PatEntry) → pmt_pid es s.service ≡ Some s.pmt_pid → screen_service content es sdt (sdt_service (entry_of s) g) ≡ service_shown moment s g
     service_is es pid =
         let now = event_at 0 (table_at content sdt s.service 0x4E) in
         let next = event_at 1 (table_at content sdt s.service 0x4E) in
@@ -161,7 +162,7 @@ module _ (mux : Mux) (ids : HasIds (own mux)) (guide : Guide) (moment : ℕ) (co
         (subst (λ (n : ℕ). AllByRecursion (HasTable (own mux) (midnight moment) g content) (numbers_from 0x50 n))
         (let size : 1 + last - 0x50 ≡ suc (1 + last - 0x51) = omega arith in size) has.events.tables))
 
-    service_met : AllByRecursion Met (want_service content sdt (sdt_service (kind_of s) g))
+    service_met : AllByRecursion Met (want_service content sdt (sdt_service (entry_of s) g))
     service_met = (ap is_some (present_is (own mux) ids (as_they_are mux) moment content s.service g has.same has.events), schedule_met)
 
     pmt_met : AllByRecursion Met (want_pmt (program_entry s))
@@ -174,7 +175,7 @@ module _ (mux : Mux) (ids : HasIds (own mux)) (guide : Guide) (moment : ℕ) (co
   -- ---- all services
 
   services_are : (es : List PatEntry) (ss : List MuxService) → AllByRecursion HasOwn ss → AllByRecursion (λ (s : MuxService). pmt_pid es s.service ≡ Some s.pmt_pid) ss
-      → map (screen_service content es sdt) (sdt_services guide (map kind_of ss)) ≡ map (λ (s : MuxService). service_shown moment s (part_of guide s.service)) ss
+      → map (screen_service content es sdt) (sdt_services guide (map entry_of ss)) ≡ map (λ (s : MuxService). service_shown moment s (part_of guide s.service)) ss
   services_are es [] has pids = refl
   services_are es (s ∷ ss) has pids =
       ap₂ (λ (x : ScreenService) (l : List ScreenService). x ∷ l) (service_is s (part_of guide s.service) has.0 es pids.0) (services_are es ss has.1 pids.1)
@@ -186,10 +187,10 @@ module _ (mux : Mux) (ids : HasIds (own mux)) (guide : Guide) (moment : ℕ) (co
       (pmts_met ss has.1)
 
   services_met : (ss : List MuxService) → AllByRecursion HasOwn ss
-      → AllByRecursion (λ (w : Want). is_some (content w.key) ≡ true) (flat_map (want_service content sdt) (sdt_services guide (map kind_of ss)))
+      → AllByRecursion (λ (w : Want). is_some (content w.key) ≡ true) (flat_map (want_service content sdt) (sdt_services guide (map entry_of ss)))
   services_met [] has = tt
   services_met (s ∷ ss) has =
-      all_append (λ (w : Want). is_some (content w.key) ≡ true) (want_service content sdt (named_service guide (kind_of s))) (flat_map (want_service content sdt) (sdt_services guide (map kind_of ss)))
+      all_append (λ (w : Want). is_some (content w.key) ≡ true) (want_service content sdt (named_service guide (entry_of s))) (flat_map (want_service content sdt) (sdt_services guide (map entry_of ss)))
       (service_met s (part_of guide s.service) has.0) (services_met ss has.1)
 
 none_unmet : (content : Key → Option Content) (ws : List Want) → AllByRecursion (λ (w : Want). is_some (content w.key) ≡ true) ws → unmet_of content ws ≡ []
@@ -274,9 +275,12 @@ module _ (nit_back : NitReadsBack) (sdt_back : SdtReadsBack) (mux : Mux) (guide 
       (all_front (Held V.content) (all_far_tables mux guide) (all_remote_schedules mux guide) far_have)))
 
   services_named : (ss : List MuxService) → AllByRecursion IsSoundService ss → AllByRecursion (λ (s : MuxService). CanBeShown (part_of guide s.service)) ss
-      → AllByRecursion (IsNamed guide) (map kind_of ss)
+      → AllByRecursion (IsNamed guide) (map entry_of ss)
   services_named [] sound can = tt
-  services_named (s ∷ ss) sound can = (record { service = omega (arith, sound.0.service.1); within = can.0.within; kept = can.0.kept }, services_named ss sound.1 can.1)
+  services_named (s ∷ ss) sound can = (
+    record { small = small_entry s sound.0; service = omega (arith, sound.0.service.1); within = can.0.within; kept = can.0.kept },
+    services_named ss sound.1 can.1,
+  )
 
   -- ---- other streams
 
@@ -323,11 +327,11 @@ module _ (nit_back : NitReadsBack) (sdt_back : SdtReadsBack) (mux : Mux) (guide 
       ap (λ (o : Option Key). programs_in (sections_at V.content o)) has.pat ∙ ap (λ (o : Option Content). programs_in (sections o)) pat_has
       ∙ ap (λ (o : Option (List PatEntry)). unwrap_or o [] ++ []) (pat_said mux sound.sound) ∙ append-nil (pat_of mux)
 
-  services_sorted : services_of V ≡ sdt_services guide (own_kinds mux)
+  services_sorted : services_of V ≡ sdt_services guide (own_entries mux)
   services_sorted =
       ap (λ (o : Option Key). by_service (services_in (sections_at V.content o))) sdt_is
       ∙ ap (λ (o : Option Content). by_service (services_in (sections o))) tables_have.1.0
-      ∙ ap by_service (sdt_said sdt_back mux.original guide (own_kinds mux) sound.original within (services_named mux.services sound.sound.services own_shown))
+      ∙ ap by_service (sdt_said sdt_back mux.original guide (own_entries mux) sound.original within (services_named mux.services sound.sound.services own_shown))
       ∙ own_in_order mux guide sound.sound.ascend
 
   all_met : AllByRecursion (λ (w : Want). is_some (V.content w.key) ≡ true) (wants V)
@@ -335,7 +339,7 @@ module _ (nit_back : NitReadsBack) (sdt_back : SdtReadsBack) (mux : Mux) (guide 
       subst (λ (es : List PatEntry). AllByRecursion (λ (w : Want). is_some (V.content w.key) ≡ true) (flat_map want_pmt es ++ want_services V.content (sdt_of V) (services_of V))) (sym programs_are)
       (subst (λ (o : Option Key). AllByRecursion (λ (w : Want). is_some (V.content w.key) ≡ true) (flat_map want_pmt (pat_of mux) ++ want_services V.content o (services_of V))) (sym sdt_is)
       (subst (λ (ss : List SdtService). AllByRecursion (λ (w : Want). is_some (V.content w.key) ≡ true) (flat_map want_pmt (pat_of mux) ++ flat_map (want_service V.content (sdt_key mux)) ss)) (sym services_sorted)
-      (all_append (λ (w : Want). is_some (V.content w.key) ≡ true) (flat_map want_pmt (pat_of mux)) (flat_map (want_service V.content (sdt_key mux)) (sdt_services guide (own_kinds mux)))
+      (all_append (λ (w : Want). is_some (V.content w.key) ≡ true) (flat_map want_pmt (pat_of mux)) (flat_map (want_service V.content (sdt_key mux)) (sdt_services guide (own_entries mux)))
       (pmts_met mux ids guide moment V.content mux.services services_have) (services_met mux ids guide moment V.content mux.services services_have))))
 
   abbrev needs_by : Option Key → Option Key → Option Key → Option ℕ → List Need → List Need
@@ -359,7 +363,7 @@ module _ (nit_back : NitReadsBack) (sdt_back : SdtReadsBack) (mux : Mux) (guide 
       ap (λ (o : Option Content). network_name (sections o)) tables_have.0
       ∙ ap (λ (o : Option Nit). unwrap_or (option_map (λ (nit : Nit). nit.name) o) (Text [])) nit_is
 
-  network_further : network_descriptors (sections (V.content (nit_key mux))) ≡ []
+  network_further : network_descriptors (sections (V.content (nit_key mux))) ≡ mux.network_descriptors
   network_further =
       ap (λ (o : Option Content). network_descriptors (sections o)) tables_have.0
       ∙ ap (λ (o : Option Nit). unwrap_or (option_map (λ (nit : Nit). nit.descriptors) o) []) nit_is
@@ -369,16 +373,18 @@ module _ (nit_back : NitReadsBack) (sdt_back : SdtReadsBack) (mux : Mux) (guide 
       ap (λ (o : Option Content). streams_in (sections o)) tables_have.0
       ∙ ap (λ (o : Option Nit). unwrap_or (option_map (λ (nit : Nit). nit.streams) o) [] ++ []) nit_is ∙ append-nil (nit_of mux).streams
 
+  own_first : (a b : ℕ) → (a == a && b == b) ≡ true
+  own_first a b = grind (arith, nat_tests)
+
   cable_is : cable_in mux.stream mux.original (streams_in (sections (V.content (nit_key mux)))) ≡ mux.cable
   cable_is =
       ap (cable_in mux.stream mux.original) streams_are
-      ∙ ap (λ (b : Bool). if b then mux.cable else cable_in mux.stream mux.original (map stream_sent mux.others)) (own mux.stream mux.original)
-    where
-      own : (a b : ℕ) → (a == a && b == b) ≡ true
-      own a b = grind (arith, nat_tests)
+      ∙ ap (λ (b : Bool). if b then mux.cable else cable_in mux.stream mux.original (map stream_sent mux.others)) (own_first mux.stream mux.original)
 
-  stream_further : descriptors_in mux.stream mux.original (streams_in (sections (V.content (nit_key mux)))) ≡ []
-  stream_further = ap (descriptors_in mux.stream mux.original) streams_are ∙ none_further mux mux.stream mux.original
+  stream_further : descriptors_in mux.stream mux.original (streams_in (sections (V.content (nit_key mux)))) ≡ mux.stream_descriptors
+  stream_further =
+      ap (descriptors_in mux.stream mux.original) streams_are
+      ∙ ap (λ (b : Bool). if b then mux.stream_descriptors else descriptors_in mux.stream mux.original (map stream_sent mux.others)) (own_first mux.stream mux.original)
 
   services_are_shown : map (screen_service V.content (programs_of V) (sdt_key mux)) (services_of V) ≡ services_shown mux guide
   services_are_shown =
@@ -406,7 +412,7 @@ module _ (nit_back : NitReadsBack) (sdt_back : SdtReadsBack) (mux : Mux) (guide 
   screen_is =
       let others = λ (es : List NitStream) (ks : List Key). other_streams V.content es mux.stream mux.original ks in
       (λ i. screen_with (has.offsets_are i) (name_is i) (network_further i) (cable_is i) (stream_further i) (services_are_shown i) (others (streams_are i) (has.others_are i)))
-      ∙ ap (screen_with mux.offsets (Text mux.network_name) [] mux.cable [] (services_shown mux guide)) (others_are sdt_back mux sound guide within V.content others_have)
+      ∙ ap (screen_with mux.offsets (Text mux.network_name) mux.network_descriptors mux.cable mux.stream_descriptors (services_shown mux guide)) (others_are sdt_back mux sound guide within V.content others_have)
 
   pub shown : heard_of V ≡ Whole (screen_of mux guide clock)
   shown =

@@ -13,7 +13,7 @@ use Rattle.mux_model.specs.Muxes.{mux_of}
 use Rattle.journal_air.specs.Screen.{screen_of}
 
 abbrev news : MuxService
-news = record { service = 101; feed = 1; kind = 1; pmt_pid = 256; pcr_pid = 257; provider = codes "First"; name = codes "First"; components = [] }
+news = record { service = 101; feed = 1; kind = 1; pmt_pid = 256; pcr_pid = 257; provider = codes "First"; name = codes "First"; components = []; descriptors = []; program_descriptors = [] }
 
 abbrev mux : Mux
 mux = mux_of 40 (codes "Demo") 2 1 (record { 0 = 0 }) 200 (news ∷ [])
@@ -88,6 +88,8 @@ wide = record {
   offsets = [];
   services = news ∷ [];
   others = third ∷ fifth ∷ [];
+  network_descriptors = [];
+  stream_descriptors = [];
 }
 
 -- the service of the other stream has an event that is over and one that comes, and none that is on; it stands before the own service

@@ -12,7 +12,7 @@ use Rattle.desk_core.specs.Publications.{swaps}
 use Rattle.journal_air.specs.Air.{airings}
 
 abbrev news : MuxService
-news = record { service = 101; feed = 1; kind = 1; pmt_pid = 256; pcr_pid = 257; provider = codes "First"; name = codes "First"; components = [] }
+news = record { service = 101; feed = 1; kind = 1; pmt_pid = 256; pcr_pid = 257; provider = codes "First"; name = codes "First"; components = []; descriptors = []; program_descriptors = [] }
 
 abbrev mux : Mux
 mux = mux_of 40 (codes "Demo") 2 1 (record { 0 = 0 }) 200 (news ∷ [])

@@ -1,4 +1,4 @@
--- What a receiver shows of a publication. A publication leaves no further descriptors: each of their lists is empty.
+-- What a receiver shows of a publication. The further descriptors are those of the multiplex; events and other streams have none.
 use Rattle.std.specs.Prelude.{ℕ, ◌+◌, ◌*◌, Bool, ◌&&◌, nat_le, nat_lt, List, [], ◌∷◌, map, filter, Option, Some, None}
 use Rattle.guide_model.specs.declared.shown.Shown.TheVariants.{Text}
 use Rattle.guide_model.specs.declared.event.Event.{Event}
@@ -43,18 +43,18 @@ events_shown moment guide = map shown_event (filter (is_scheduled (midnight mome
 
 -- ---- own services
 
--- a service: its numbers and components are the multiplex's, its names and events the guide's, and what is present and following at a
--- moment
+-- a service: its numbers, components and further descriptors are the multiplex's, its names and events the guide's, and what is present
+-- and following at a moment
 abbrev pub service_shown : ℕ → MuxService → ServiceGuide → ScreenService
 service_shown moment service guide = record {
   service = service.service;
   kind = service.kind;
   provider = Text guide.provider;
   name = Text guide.name;
-  descriptors = [];
+  descriptors = service.descriptors;
   pmt_pid = Some service.pmt_pid;
   pcr_pid = Some service.pcr_pid;
-  program_descriptors = [];
+  program_descriptors = service.program_descriptors;
   components = map shown_component service.components;
   now = now_shown moment guide;
   next = next_shown moment guide;
@@ -111,11 +111,11 @@ screen_of mux guide clock = record {
   offsets = mux.offsets;
   network = mux.network;
   network_name = Text mux.network_name;
-  network_descriptors = [];
+  network_descriptors = mux.network_descriptors;
   stream = mux.stream;
   original = mux.original;
   cable = mux.cable;
-  stream_descriptors = [];
+  stream_descriptors = mux.stream_descriptors;
   services = services_shown mux guide;
   others = others_shown mux guide;
 }

@@ -15,11 +15,12 @@ use Rattle.mux_model.specs.declared.mux.Other.{Other}
 use Rattle.mux_model.specs.Order.{DoCome, all_placed, placed}
 use Rattle.mux_model.specs.Sound.{AreSoundOthers, HasSoundCable, HasStreamIds, IsSoundOther, IsSoundRemote, comes_before, has_lower_id, has_stream_ids, remote_services}
 use Rattle.mux_model.proofs.Placing.{all_in_place, all_with, come_with, length_placed, placed_more}
-use Rattle.mux_config.specs.declared.record.Record.{Record}
-use Rattle.mux_config.specs.declared.record.Record.TheVariants.{Stream, Elsewhere, Remote}
-use Rattle.mux_config.specs.declared.record.Numbered.{Numbered}
+use Rattle.mux_lines.specs.declared.record.Record.{Record}
+use Rattle.mux_lines.specs.declared.record.Record.TheVariants.{Stream, Elsewhere, Remote}
+use Rattle.mux_lines.specs.declared.record.Numbered.{Numbered}
 use Rattle.mux_config.specs.Descriptions.{all_of, first, first_line, has_any_id, has_ids, has_no_place, is_other, is_stream, mux_with, numbered, other_in, others_of, remote_in, remote_of, repeated_at, said, service_in, services_of, sorted, stream_in, with_parts, with_remotes}
-use Rattle.mux_config.proofs.FineRecords.{AreFineOthers, IsAlone, IsFine, IsFineRemote, others_in, remotes_in}
+use Rattle.mux_lines.specs.Fine.{IsFine, IsFineRemote}
+use Rattle.mux_config.proofs.FineRecords.{AreFineOthers, IsAlone, others_in, remotes_in}
 use Rattle.mux_config.proofs.RecordFacts.{all_kept, all_more, differs, first_not, none_pass, or_false_right, said_all}
 use Rattle.mux_config.proofs.Tallies.{different_of, tally, tally_append, tally_each, tally_either, tally_map, tally_of_each, tally_remotes, tally_sorted}
 
@@ -242,15 +243,18 @@ first_alone others (r ∷ rs) h = elim (cases_Bool (is_stream r.says)) [
   | inr e ↦ rw e (first_alone others rs h.1)
 ]
 
-few_services : (rs : List Numbered) → AreFineOthers rs → length (remote_services (others_of rs)) ≤ 64
-few_services rs f =
+-- no more services than records of them
+pub remotes_few : (rs : List Numbered) → AreFineOthers rs → length (remote_services (others_of rs)) ≤ length (all_of remote_in rs)
+remotes_few rs f =
     let all = remote_services (others_of rs) in
     let one = tally_each all in
     let two = tally_remotes (λ (s : RemoteService). true) rs (others_in rs) in
     let three = tally_of_each (λ (s : RemoteService). true) rs (others_in rs) f.ascend in
     let four = tally_each (all_of remote_in rs) in
-    let few = f.few_remotes in
-    omega (arith, one, two, three, four, few)
+    omega (arith, one, two, three, four)
+
+few_services : (rs : List Numbered) → AreFineOthers rs → length (remote_services (others_of rs)) ≤ 64
+few_services rs f = (let few = f.few_remotes in omega (arith, few, remotes_few rs f))
 
 once_each : (rs : List Numbered) → AreFineOthers rs → (n : ℕ) → tally (λ m. m == n) (map (λ (s : MuxService). s.service) (services_of rs) ++ map (λ (s : RemoteService). s.service) (remote_services (others_of rs))) ≤ 1
 once_each rs f n =

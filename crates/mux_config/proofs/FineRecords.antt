@@ -1,57 +1,19 @@
--- Records whose fields are in their ranges, with texts that may be kept.
-use Rattle.std.specs.Prelude.{◌≡◌, ◌≢◌, ℕ, ◌*◌, ◌<◌, ◌≤◌, false, List, [], length, map, Option, Some, None}
-use Rattle.std.specs.List.{AllByRecursion}
+-- Records that were taken: each is fine, and they fit together.
+use Rattle.std.specs.Prelude.{◌≡◌, ◌≢◌, ℕ, ◌≤◌, false, List, [], length, map, Option, Some, None}
+use Rattle.std.specs.List.{AllByRecursion, list_any}
 use Rattle.guide_model.specs.declared.stream.Component.{Component}
-use Rattle.guide_model.specs.Coding.{coded_size}
-use Rattle.guide_model.specs.Decoding.{IsKept}
-use Rattle.si_time.specs.declared.moment.Moment.{Moment}
 use Rattle.mux_model.specs.declared.mux.MuxService.{MuxService}
 use Rattle.mux_model.specs.declared.mux.RemoteService.{RemoteService}
 use Rattle.mux_model.specs.declared.mux.Other.{Other}
 use Rattle.mux_model.specs.Order.{DoCome, all_placed}
-use Rattle.mux_config.specs.declared.record.Record.{Record}
-use Rattle.mux_config.specs.declared.record.Record.TheVariants.{Network, Stream, Delivery, Service, Part, Start, Quota, Rate, Local, Elsewhere, Remote, End}
-use Rattle.mux_config.specs.declared.record.RecordFound.{RecordFound}
-use Rattle.mux_config.specs.declared.record.RecordFound.TheVariants.{Is}
-use Rattle.mux_model.specs.Sound.{AreDifferent, Between, DoAscend, IsSoundCable, IsSoundComponent, IsSoundOffset, IsSoundRemote, IsSoundService, AreOfRegions, HasSoundCable, comes_before, has_lower_id, has_stream_ids, pmt_pids}
-use Rattle.mux_config.specs.declared.record.Numbered.{Numbered}
-use Rattle.mux_config.specs.Descriptions.{all_of, has_any_id, local_in, other_in, part_in, remote_in, remote_of, service_in, sorted, stream_in}
+use Rattle.mux_model.specs.Rooms.{AreSoundDescriptors, made_of_component}
+use Rattle.mux_model.specs.Sound.{AreDifferent, DoAscend, AreOfRegions, comes_before, has_lower_id, has_stream_ids, pmt_pids}
+use Rattle.mux_lines.specs.declared.record.Place.TheVariants.{InComponent}
+use Rattle.mux_lines.specs.declared.record.Numbered.{Numbered}
+use Rattle.mux_config.specs.Taken.{network_taken, program_taken, service_taken}
+use Rattle.mux_config.specs.Descriptions.{all_of, descriptors_at, has_any_id, has_part, local_in, other_in, part_in, remote_in, remote_of, service_in, sorted, stream_in}
 use Rattle.mux_config.proofs.Tallies.{tally}
-
--- a service, with texts that may be kept
-abbrev pub IsFineService : MuxService → Type 0
-IsFineService s = IsSoundService s × (IsKept s.provider × IsKept s.name)
-
--- a service of another stream, with texts that may be kept
-abbrev pub IsFineRemote : RemoteService → Type 0
-IsFineRemote s = IsSoundRemote s × (IsKept s.provider × IsKept s.name)
-
-abbrev pub IsFineNetwork : ℕ × List ℕ → Type 0
-IsFineNetwork network = (network.0 < 65536) × (Between 1 100 (coded_size network.1) × IsKept network.1)
-
-abbrev pub IsFineStream : ℕ × ℕ → Type 0
-IsFineStream stream = (stream.0 < 65536) × (stream.1 < 65536)
-
-abbrev pub IsFineStart : Moment → Type 0
-IsFineStart moment = moment.0 < 65536 * 86400
-
-abbrev pub IsFine : Record → Type 0
-IsFine (Network id name) = IsFineNetwork (id, name)
-IsFine (Stream id original) = IsFineStream (id, original)
-IsFine (Delivery cable) = IsSoundCable cable
-IsFine (Service s) = IsFineService s
-IsFine (Part id component) = IsSoundComponent component
-IsFine (Start moment) = IsFineStart moment
-IsFine (Quota n) = Between 1 10000 n
-IsFine (Rate n) = Between 100000 100000000 n
-IsFine (Local offset) = IsSoundOffset offset
-IsFine (Elsewhere s o cable) = IsFineStream (s, o) × HasSoundCable cable
-IsFine (Remote s o service) = IsFineRemote service
-IsFine End = Unit {0}
-
-abbrev pub IsFineFound : RecordFound → Type 0
-IsFineFound (Is r) = IsFine r
-IsFineFound found = Unit {0}
+use Rattle.mux_lines.specs.Fine.{IsFine}
 
 -- ---- records that were taken
 
@@ -85,6 +47,21 @@ pub record AreFineOthers (rs : List Numbered) : Type 0 where
   -- no two records have one service_id
   pub ids : (id : ℕ) → tally (λ (r : Numbered). has_any_id id r.says) rs ≤ 1
 
+-- the three rooms
+pub record AreInRooms (rs : List Numbered) : Type 0 where
+  pub network : network_taken rs ≤ 1012
+  pub program : (id : ℕ) → program_taken id rs ≤ 1012
+  pub service : (id : ℕ) → service_taken id rs ≤ 799
+
+-- a component's further descriptors may stand beside its language
+abbrev pub IsSpoken : List Numbered → ℕ → Component → Type 0
+IsSpoken rs id c = AreSoundDescriptors (made_of_component c.language) (descriptors_at (InComponent id c.pid) rs)
+
+pub record AreFineFurther (rs : List Numbered) : Type 0 where
+  -- those of a component stand after it
+  pub homeless : (id pid : ℕ) → list_any (λ (r : Numbered). has_part id pid r.says) rs ≡ false → descriptors_at (InComponent id pid) rs ≡ []
+  pub spoken : (id : ℕ) → AllByRecursion (IsSpoken rs id) (parts_in id rs)
+
 pub record AreFine (rs : List Numbered) : Type 0 where
   pub each : AllByRecursion (λ (r : Numbered). IsFine r.says) rs
   pub count : length (in_order rs) ≤ 64
@@ -96,3 +73,9 @@ pub record AreFine (rs : List Numbered) : Type 0 where
   pub few_offsets : length (all_of local_in rs) ≤ 16
   pub regions : AreOfRegions (all_of local_in rs)
   pub others : AreFineOthers rs
+
+-- they are fine, within their rooms, and their further descriptors are
+pub record AreTaken (rs : List Numbered) : Type 0 where
+  pub fine : AreFine rs
+  pub rooms : AreInRooms rs
+  pub further : AreFineFurther rs

@@ -3,7 +3,9 @@ pub mod Tallies
 pub mod FineRecords
 pub mod Ordering
 pub mod FineOthers
+pub mod PartFacts
+pub mod FurtherFacts
+pub mod TakenFacts
 pub mod Soundness
-pub mod EightFields
 pub mod FineLines
 pub mod Reading

@@ -5,17 +5,20 @@ use Rattle.std.specs.List.{cons_option, fold, position_or_len}
 use Rattle.std.proofs.lemmas.Bool.{cases_Bool}
 use Rattle.std.proofs.lemmas.Bool.Decides.{nat_tests}
 use Rattle.std.proofs.lemmas.List.{take_more}
+use Rattle.std.proofs.lemmas.List.Concat.{flat_map-append}
 use Rattle.std.proofs.lemmas.Option.{cond_some}
 use Rattle.si_lists.proofs.Truths.{none_not}
 use Rattle.mux_model.specs.declared.mux.MuxService.{MuxService}
-use Rattle.mux_config.specs.declared.record.Record.{Record}
-use Rattle.mux_config.specs.declared.record.Numbered.{Numbered}
+use Rattle.guide_model.specs.declared.descriptor.RawDesc.{RawDesc}
+use Rattle.mux_lines.specs.declared.record.Place.{Place}
+use Rattle.mux_lines.specs.declared.record.Record.{Record}
+use Rattle.mux_lines.specs.declared.record.Numbered.{Numbered}
 use Rattle.mux_model.specs.declared.mux.RemoteService.{RemoteService}
 use Rattle.mux_model.specs.declared.mux.Other.{Other}
 use Rattle.mux_model.specs.Order.{all_placed}
 use Rattle.mux_model.specs.Sound.{comes_before, has_lower_id}
 use Rattle.mux_model.proofs.Placing.{map_with, placed_more}
-use Rattle.mux_config.specs.Descriptions.{all_of, insert, other_in, service_in, sorted, with_parts, with_remotes}
+use Rattle.mux_config.specs.Descriptions.{all_of, descriptors_at, insert, other_in, said_at, service_in, sorted, with_parts, with_remotes}
 use Rattle.mux_config.specs.Kinds.{put_other, put_remote, put_service}
 use Rattle.mux_config.proofs.RecordFacts.{all_more}
 
@@ -57,6 +60,12 @@ place_none s ts id same e =
 
 pub all_step : {X : Type 0} (kind : Record → Option X) (rs : List Numbered) (i : ℕ) (x : Numbered) → i < length rs → x ≡ get_or rs i x → all_of kind (take (i + 1) rs) ≡ all_of kind (take i rs) ++ cons_option (kind x.says) []
 all_step kind rs i x lt e = ap (all_of kind) (take_more rs i x lt ∙ ap (λ (y : Numbered). take i rs ++ y ∷ []) (sym e)) ∙ all_more kind (take i rs) x
+
+pub at_step : (place : Place) (rs : List Numbered) (i : ℕ) (x : Numbered) → i < length rs → x ≡ get_or rs i x → descriptors_at place (take (i + 1) rs) ≡ descriptors_at place (take i rs) ++ said_at place x.says
+at_step place rs i x lt e =
+    ap (descriptors_at place) (take_more rs i x lt ∙ ap (λ (y : Numbered). take i rs ++ y ∷ []) (sym e))
+    ∙ flat_map-append (λ (r : Numbered). said_at place r.says) (take i rs) (x ∷ [])
+    ∙ ap (λ (ds : List RawDesc). descriptors_at place (take i rs) ++ ds) (append-nil (said_at place x.says))
 
 -- ---- services that ascend
 

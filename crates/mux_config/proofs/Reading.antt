@@ -18,9 +18,9 @@ use Rattle.mux_config.specs.declared.fault.MuxFault.{MuxFault}
 use Rattle.mux_config.specs.declared.fault.MuxFault.TheVariants.{Missing}
 use Rattle.mux_config.specs.declared.stop.MuxStop.{MuxStop}
 use Rattle.mux_config.specs.declared.stop.MuxStop.TheVariants.{Fault, Read, Memory}
-use Rattle.mux_config.specs.declared.record.Numbered.{Numbered}
+use Rattle.mux_lines.specs.declared.record.Numbered.{Numbered}
 use Rattle.mux_config.specs.Descriptions.{Description, described_from, description_ahead, fault_in, ended}
-use Rattle.mux_config.specs.Fields.{found_line}
+use Rattle.mux_lines.specs.Fields.{found_line}
 use Rattle.mux_config.specs.Reads.{Makes, ReadMux, TookLine, answer_to}
 use Rattle.mux_config.proofs.FineLines.{whole_descriptions_are_sound}
 

@@ -7,8 +7,8 @@ use Rattle.std.proofs.lemmas.Bool.Decides.{nat_tests}
 use Rattle.std.specs.Option.{option_or, is_some}
 use Rattle.std.proofs.lemmas.List.Elements.{filter_map-append}
 use Rattle.std.proofs.lemmas.List.Recursion.{is_count_by}
-use Rattle.mux_config.specs.declared.record.Record.{Record}
-use Rattle.mux_config.specs.declared.record.Numbered.{Numbered}
+use Rattle.mux_lines.specs.declared.record.Record.{Record}
+use Rattle.mux_lines.specs.declared.record.Numbered.{Numbered}
 use Rattle.mux_config.specs.Descriptions.{all_of, first_line}
 
 pub all_more : {X : Type 0} (kind : Record → Option X) (rs : List Numbered) (r : Numbered) → all_of kind (rs ++ r ∷ []) ≡ all_of kind rs ++ cons_option (kind r.says) []

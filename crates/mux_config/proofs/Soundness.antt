@@ -1,7 +1,7 @@
 -- What holds of records that were taken, and of their multiplex.
-use Rattle.std.proofs.Common.{◌≡◌, ◌≢◌, ℕ, ◌+◌, ◌<◌, ◌≤◌, ◌==◌, Bool, true, false, cond, List, [], ◌∷◌, ◌++◌, length, map, Option, Some, None, refl, sym, ap, ◌∙◌, subst, arith, inl, inr, append-nil, length-append, eq-eqb, lit<, lit≤, ◌⊎◌}
+use Rattle.std.proofs.Common.{◌≡◌, ◌≢◌, ℕ, ◌+◌, ◌<◌, ◌≤◌, ◌==◌, Bool, false, List, [], ◌∷◌, ◌++◌, length, map, sum_by, Option, Some, None, refl, sym, ap, ◌∙◌, subst, arith, inl, inr, length-append, eq-eqb, lit<, lit≤}
 use Rattle.std.specs.Prelude.{◌||◌, ◌&&◌, nat_lt, nat_le, IfSome, Ok}
-use Rattle.std.specs.List.{AllByRecursion, cons_option, fold}
+use Rattle.std.specs.List.{AllByRecursion, fold}
 use Rattle.std.specs.Option.{unwrap_or}
 use Rattle.std.proofs.lemmas.Bool.{cases_Bool, eqb-true, leb-true, false≢true}
 use Rattle.std.proofs.lemmas.Bool.Decides.{nat_tests}
@@ -10,19 +10,27 @@ use Rattle.si_lists.proofs.Lists.{all_push, all_append, all_map, all_to_map, all
 use Rattle.guide_model.specs.declared.offset.Offset.{Offset}
 use Rattle.guide_model.specs.declared.stream.Cable.{Cable}
 use Rattle.guide_model.specs.declared.stream.Component.{Component}
+use Rattle.guide_model.specs.Coding.{coded_size}
 use Rattle.guide_model.specs.Decoding.{IsKept}
 use Rattle.mux_model.specs.declared.mux.MuxService.{MuxService}
 use Rattle.mux_model.specs.declared.mux.RemoteService.{RemoteService}
 use Rattle.mux_model.specs.declared.mux.Mux.{Mux}
-use Rattle.mux_config.specs.declared.record.Record.{Record}
-use Rattle.mux_config.specs.declared.record.Record.TheVariants.{Network, Stream, Delivery, Service, Part, Start, Quota, Rate, Local, Elsewhere, Remote}
-use Rattle.mux_config.specs.declared.record.Numbered.{Numbered}
-use Rattle.mux_config.specs.Descriptions.{Description, all_of, cable_of, delivery_in, first, first_line, has_any_id, has_id, has_ids, has_pmt, has_pid, has_region, holds, local_in, ended, is_stream, stream_in, with_network, with_services, with_stream, has_no_place, insert, is_delivery, is_network, is_quota, is_rate, is_start, mux_with, network_in, numbered, part_in, quota_in, rate_in, rate_of, repeated_at, said, service_in, services_of, sorted, start_in, with_parts}
-use Rattle.mux_config.proofs.FineRecords.{AreFine, AreFineOthers, IsAlone, IsApart, IsFine, IsFineNetwork, IsFineService, IsFineStart, IsFineStream, in_order, others_in, parts_in}
-use Rattle.mux_model.specs.Sound.{AreDifferent, Between, DoAscend, HasSoundCable, HasSoundRate, IsSoundCable, IsSoundComponent, IsSoundOffset, IsSoundService, AreOfRegions, is_region, all_component_pids, component_pids, pmt_pids, IsSoundWithIds, remote_services}
+use Rattle.mux_lines.specs.declared.record.Place.TheVariants.{InNetwork, InStream, InService, InProgram}
+use Rattle.mux_lines.specs.declared.record.Record.{Record}
+use Rattle.mux_lines.specs.declared.record.Record.TheVariants.{Network, Stream, Delivery, Service, Part, Start, Quota, Rate, Local, Elsewhere, Remote}
+use Rattle.mux_lines.specs.declared.record.Numbered.{Numbered}
+use Rattle.mux_config.specs.Taken.{is_full, sum_of}
+use Rattle.mux_config.proofs.PartFacts.{parts_with, said_here}
+use Rattle.mux_config.proofs.FurtherFacts.{further_more, further_none, sound_at}
+use Rattle.mux_config.proofs.TakenFacts.{base_size, cable_room, name_bytes, name_room, nit_room, others_size, program_room, rooms_more, rooms_none, service_room, sum_placed}
+use Rattle.mux_config.specs.Descriptions.{Description, all_of, cable_of, delivery_in, first, first_line, has_any_id, has_id, has_ids, has_pmt, has_pid, has_region, holds, local_in, ended, is_stream, stream_in, with_network, with_services, with_stream, has_no_place, insert, is_delivery, is_network, is_quota, is_rate, is_start, mux_with, network_in, numbered, part_in, quota_in, rate_in, rate_of, repeated_at, said, service_in, services_of, sorted, start_in, with_descriptors, with_parts, other_in, others_of, with_remotes}
+use Rattle.mux_lines.specs.Fine.{IsFine, IsFineNetwork, IsFineService, IsFineStart, IsFineStream}
+use Rattle.mux_config.proofs.FineRecords.{AreFine, AreFineOthers, AreTaken, IsSpoken, IsAlone, IsApart, in_order, others_in, parts_in}
+use Rattle.mux_model.specs.Rooms.{cable_size, network_size}
+use Rattle.mux_model.specs.Sound.{AreDifferent, Between, DoAscend, HasSoundCable, HasSoundRate, IsSoundCable, IsSoundComponent, IsSoundOffset, IsSoundService, AreOfRegions, comes_before, is_region, all_component_pids, component_pids, pmt_pids, IsSoundWithIds, remote_services}
 use Rattle.mux_config.proofs.RecordFacts.{all_kept, all_more, differs, first_not, none_pass, or_false_left, or_false_right, or_none_left, or_none_right, said_all}
 use Rattle.mux_config.proofs.Ordering.{sorted_more}
-use Rattle.mux_config.proofs.FineOthers.{fine_ids, first_alone, kept_names, others_kept, others_more, others_none, remotes_more, sound_others, stream_alone}
+use Rattle.mux_config.proofs.FineOthers.{fine_ids, first_alone, kept_names, others_kept, others_more, others_none, remotes_few, remotes_more, sound_others, stream_alone}
 
 -- ---- lists
 
@@ -69,10 +77,6 @@ different_snoc (x ∷ xs) c new h = (
   all_to_map (λ m. x.pid ≢ m) (λ (y : Component). y.pid) (xs ++ c ∷ []) (all_push (λ (y : Component). x.pid ≢ y.pid) xs c (all_of_map (λ m. x.pid ≢ m) (λ (y : Component). y.pid) xs h.0) new.0),
   different_snoc xs c new.1 h.1,
 )
-
-said_here : (P : Component → Type 0) (b : Bool) (d c : Component) → P d → cond b (Some d) None ≡ Some c → P c
-said_here P true d c h e = (let same : d ≡ c = cc e in subst P same h)
-said_here P false d c h e = cc e
 
 all_sorted_from : (P : MuxService → Type 0) (xs done : List MuxService) → AllByRecursion P done → AllByRecursion P xs → AllByRecursion P (fold (λ (d : List MuxService) (x : MuxService). insert x d) done xs)
 all_sorted_from P [] done d h = d
@@ -134,7 +138,7 @@ offset_said other o h e = cc e
 
 -- ---- records that were taken
 
-pub fine_none : AreFine []
+fine_none : AreFine []
 fine_none = record { each = tt; count = omega arith; ascend = tt; pmts = tt; few = λ id. omega arith; once = λ id. tt; apart = λ id. tt; few_offsets = omega arith; regions = tt; others = others_none }
 
 -- records that keep the services, the components and the offsets
@@ -206,23 +210,6 @@ fine_service rs line s f fine place once =
 fewer : (n : ℕ) → nat_le 16 n ≡ false → n < 16
 fewer n e = grind (arith, nat_tests)
 
--- a component, among those of a service
-parts_split : (rs : List Numbered) (line home : ℕ) (c : Component) (id : ℕ)
-    → ((home ≡ id) × (parts_in id (rs ++ numbered line (Part home c) ∷ []) ≡ parts_in id rs ++ c ∷ [])) ⊎ (((home == id) ≡ false) × (parts_in id (rs ++ numbered line (Part home c) ∷ []) ≡ parts_in id rs))
-parts_split rs line home c id =
-    let more = all_more (part_in id) rs (numbered line (Part home c)) in
-    elim (cases_Bool (home == id)) [
-      | inl e ↦ inl (eqb-true home id e, more ∙ ap (λ b. parts_in id rs ++ cons_option (cond b (Some c) None) []) e)
-      | inr e ↦ inr (e, more ∙ ap (λ b. parts_in id rs ++ cons_option (cond b (Some c) None) []) e ∙ append-nil (parts_in id rs))
-    ]
-
--- what holds of a service's components and of one more holds of them with it
-parts_with : (P : List Component → Type 0) (rs : List Numbered) (line home : ℕ) (c : Component) (id : ℕ) → (home ≡ id → P (parts_in id rs ++ c ∷ [])) → P (parts_in id rs) → P (parts_in id (rs ++ numbered line (Part home c) ∷ []))
-parts_with P rs line home c id more kept = elim (parts_split rs line home c id) [
-  | inl (same, e) ↦ subst P (sym e) (more same)
-  | inr (other, e) ↦ subst P (sym e) kept
-]
-
 held_pmt : (id pid : ℕ) (r : Record) → holds id pid r ≡ false → has_pmt pid r ≡ false
 held_pmt id pid (Service s) e = or_false_left (s.pmt_pid == pid) _ e
 held_pmt id pid other e = refl
@@ -289,7 +276,7 @@ fine_local rs line o f fine place once =
     }
 
 -- one record more
-pub fine_more : (rs : List Numbered) (line : ℕ) (says : Record) → AreFine rs → IsFine says → has_no_place rs says ≡ false → repeated_at rs says ≡ None → AreFine (rs ++ numbered line says ∷ [])
+fine_more : (rs : List Numbered) (line : ℕ) (says : Record) → AreFine rs → IsFine says → has_no_place rs says ≡ false → repeated_at rs says ≡ None → AreFine (rs ++ numbered line says ∷ [])
 fine_more rs line (Service s) f fine place once = fine_service rs line s f fine place once
 fine_more rs line (Part id c) f fine place once = fine_part rs line id c f fine place once
 fine_more rs line (Local o) f fine place once = fine_local rs line o f fine place once
@@ -299,6 +286,16 @@ fine_more rs line (Stream s o) f fine place once =
 fine_more rs line (Elsewhere s o cable) f fine place once = fine_kept rs line (Elsewhere s o cable) f fine refl (λ id. refl) refl (others_more rs line s o cable f.others place once)
 fine_more rs line (Remote s o service) f fine place once = fine_kept rs line (Remote s o service) f fine refl (λ id. refl) refl (remotes_more rs line s o service f.others place once)
 fine_more rs line other f fine place once = fine_kept rs line other f fine refl (λ id. refl) refl (others_kept rs line other f.others refl refl (λ a b. refl) tt (λ id e. cc e))
+
+pub taken_none : AreTaken []
+taken_none = record { fine = fine_none; rooms = rooms_none; further = further_none }
+
+pub taken_more : (rs : List Numbered) (line : ℕ) (says : Record) → AreTaken rs → IsFine says → has_no_place rs says ≡ false → repeated_at rs says ≡ None → is_full rs says ≡ false → AreTaken (rs ++ numbered line says ∷ [])
+taken_more rs line says t fine place once room = record {
+  fine = fine_more rs line says t.fine fine place once;
+  rooms = rooms_more rs line says t.rooms room;
+  further = further_more rs line says t.further fine place once;
+}
 
 -- ---- the multiplex
 
@@ -347,22 +344,37 @@ sound_cable : (o : Option Cable) → IfSome o IsSoundCable → HasSoundCable o
 sound_cable None h = tt
 sound_cable (Some cable) h = h
 
-sound_services : (rs : List Numbered) (ts : List MuxService) → AreFine rs → AllByRecursion IsFineService ts → AllByRecursion IsSoundService (map (with_parts rs) ts)
+-- components with their further descriptors
+whole_parts : (rs : List Numbered) (id : ℕ) (cs : List Component) → AllByRecursion IsSoundComponent cs → AllByRecursion (IsSpoken rs id) cs → AllByRecursion IsSoundComponent (map (with_descriptors rs id) cs)
+whole_parts rs id [] h k = tt
+whole_parts rs id (c ∷ cs) h k = (record { pid = h.0.pid; language = h.0.language; descriptors = k.0 }, whole_parts rs id cs h.1 k.1)
+
+pids_same : (rs : List Numbered) (id : ℕ) (cs : List Component) → map (λ (c : Component). c.pid) (map (with_descriptors rs id) cs) ≡ map (λ (c : Component). c.pid) cs
+pids_same rs id [] = refl
+pids_same rs id (c ∷ cs) = ap (λ (l : List ℕ). c.pid ∷ l) (pids_same rs id cs)
+
+sound_services : (rs : List Numbered) (ts : List MuxService) → AreTaken rs → AllByRecursion IsFineService ts → AllByRecursion IsSoundService (map (with_parts rs) ts)
 sound_services rs [] f h = tt
-sound_services rs (s ∷ ts) f h = (
-  record {
-    service = h.0.0.service;
-    feed = h.0.0.feed;
-    pmt_pid = h.0.0.pmt_pid;
-    pcr_pid = h.0.0.pcr_pid;
-    provider = h.0.0.provider;
-    name = h.0.0.name;
-    count = f.few s.service;
-    components = said_all (part_in s.service) IsSoundComponent IsFine (part_said s.service) rs f.each;
-    components_once = f.once s.service;
-  },
-  sound_services rs ts f h.1,
-)
+sound_services rs (s ∷ ts) f h =
+    let sound = h.0.0 in
+    let parts = said_all (part_in s.service) IsSoundComponent IsFine (part_said s.service) rs f.fine.each in (
+      record {
+        service = sound.service;
+        feed = sound.feed;
+        pmt_pid = sound.pmt_pid;
+        pcr_pid = sound.pcr_pid;
+        provider = sound.provider;
+        name = sound.name;
+        count = (let few = f.fine.few s.service in omega (arith, few, length-map (parts_in s.service rs) (with_descriptors rs s.service)));
+        components = whole_parts rs s.service (parts_in s.service rs) parts (f.further.spoken s.service);
+        components_once = subst AreDifferent (sym (pids_same rs s.service (parts_in s.service rs))) (f.fine.once s.service);
+        descriptors = sound_at (InService s.service) rs f.fine.each;
+        room = (let most = f.rooms.service s.service in omega (arith, most, service_room s.service rs));
+        program_descriptors = sound_at (InProgram s.service) rs f.fine.each;
+        program_room = program_room s rs f.rooms (f.fine.once s.service);
+      },
+      sound_services rs ts f h.1,
+    )
 
 ascend_parts : (rs : List Numbered) (ts : List MuxService) → DoAscend ts → DoAscend (map (with_parts rs) ts)
 ascend_parts rs [] h = tt
@@ -376,7 +388,7 @@ all_pids : (rs : List Numbered) (s : MuxService) (ts : List MuxService) → ((id
 all_pids rs s [] h = tt
 all_pids rs s (t ∷ ts) h =
     all_append (λ pid. s.pmt_pid ≢ pid) (component_pids (with_parts rs t)) (all_component_pids (map (with_parts rs) ts))
-    (all_to_map (λ pid. s.pmt_pid ≢ pid) (λ (c : Component). c.pid) (parts_in t.service rs) (h t.service)) (all_pids rs s ts h)
+    (subst (AllByRecursion (λ pid. s.pmt_pid ≢ pid)) (sym (pids_same rs t.service (parts_in t.service rs))) (all_to_map (λ pid. s.pmt_pid ≢ pid) (λ (c : Component). c.pid) (parts_in t.service rs) (h t.service))) (all_pids rs s ts h)
 
 for_each : (Q : ℕ → MuxService → Type 0) (xs : List MuxService) → ((id : ℕ) → AllByRecursion (Q id) xs) → AllByRecursion (λ s. (id : ℕ) → Q id s) xs
 for_each Q [] h = tt
@@ -396,11 +408,24 @@ pub record IsFineMux (mux : Mux) : Type 0 where
   pub services : AllByRecursion (λ (s : MuxService). IsKept s.provider × IsKept s.name) mux.services
   pub remotes : AllByRecursion (λ (s : RemoteService). IsKept s.provider × IsKept s.name) (remote_services mux.others)
 
-fine_mux : (rs : List Numbered) (network : ℕ × List ℕ) (stream : ℕ × ℕ) → AreFine rs → IsFineNetwork network → IsFineStream stream → IsAlone (others_in rs) (Some stream) → 1 ≤ length (services_of rs)
-    → IsFineMux (mux_with network stream rs)
-fine_mux rs network stream f named ids alone some =
+-- the size of the NIT
+small_network : (rs : List Numbered) (network : ℕ × List ℕ) (stream : ℕ × ℕ) → AreTaken rs → coded_size network.1 ≤ sum_of name_bytes rs → network_size (mux_with network stream rs) ≤ 1012
+small_network rs network stream t name =
+    let each = with_remotes rs in
+    let services : length (services_of rs) ≡ length (all_of service_in rs) = omega (arith, length-map (in_order rs) (with_parts rs), length_sorted_from (all_of service_in rs) []) in
+    let others : sum_by base_size (others_in rs) ≡ sum_by base_size (all_of other_in rs) = omega (arith, sum_placed base_size comes_before (all_of other_in rs) []) in
+    let most = nit_room rs (coded_size network.1) (length (services_of rs)) (sum_by base_size (others_in rs)) (length (remote_services (others_of rs))) (cable_size (cable_of rs)) t.rooms name services others
+    (remotes_few rs t.fine.others) (cable_room rs) in
+    omega (arith, most, others_size rs (others_in rs))
+
+fine_mux : (rs : List Numbered) (network : ℕ × List ℕ) (stream : ℕ × ℕ) → AreTaken rs → IsFineNetwork network → coded_size network.1 ≤ sum_of name_bytes rs → IsFineStream stream → IsAlone (others_in rs) (Some stream)
+    → 1 ≤ length (services_of rs) → IsFineMux (mux_with network stream rs)
+fine_mux rs network stream t named name ids alone some =
+    let f = t.fine in
     let ts = in_order rs in
     let served = served_all IsFineService IsFine service_said rs f.each in
+    let most : length (services_of rs) ≤ 64 = omega (arith, f.count, length-map (in_order rs) (with_parts rs)) in
+    let others = sound_others rs network stream f.each f.others alone in
     record {
       sound = record {
         sound = record {
@@ -411,12 +436,15 @@ fine_mux rs network stream f named ids alone some =
           rate = sound_rate (rate_of rs)
               (said_first rate_in (Between 100000 100000000) in_rate is_rate rs f.each);
           offsets = record { few = f.few_offsets; each = said_all local_in IsSoundOffset IsFine offset_said rs f.each; once = f.regions };
-          count = (some, omega (arith, f.count, length-map (in_order rs) (with_parts rs)));
-          services = sound_services rs ts f served;
+          count = (some, most);
+          services = sound_services rs ts t served;
           ascend = ascend_parts rs ts f.ascend;
           pmts_once = subst AreDifferent (sym (pmts_same rs ts)) f.pmts;
           apart = apart_pids rs f;
-          others = sound_others rs network stream f.each f.others alone;
+          others = others;
+          network_descriptors = sound_at InNetwork rs f.each;
+          stream_descriptors = sound_at InStream rs f.each;
+          network_room = small_network rs network stream t name;
         };
         network = named.0;
         stream = ids.0;
@@ -434,15 +462,16 @@ whole_services mux made e = elim (cases_Bool (nat_le 1 (length mux.services))) [
   | inr none ↦ cc (rw none at e)
 ]
 
-whole_stream : (rs : List Numbered) (network : ℕ × List ℕ) (o : Option (ℕ × ℕ)) (made : Mux) → AreFine rs → IsFineNetwork network → IfSome o IsFineStream → IsAlone (others_in rs) o → with_stream rs network o ≡ Ok made → IsFineMux made
-whole_stream rs network None made f named ids alone e = cc e
-whole_stream rs network (Some stream) made f named ids alone e =
+whole_stream : (rs : List Numbered) (network : ℕ × List ℕ) (o : Option (ℕ × ℕ)) (made : Mux) → AreTaken rs → IsFineNetwork network → coded_size network.1 ≤ sum_of name_bytes rs → IfSome o IsFineStream → IsAlone (others_in rs) o → with_stream rs network o ≡ Ok made → IsFineMux made
+whole_stream rs network None made t named name ids alone e = cc e
+whole_stream rs network (Some stream) made t named name ids alone e =
     let w = whole_services (mux_with network stream rs) made e in
-    subst IsFineMux w.1 (fine_mux rs network stream f named ids alone w.0)
+    subst IsFineMux w.1 (fine_mux rs network stream t named name ids alone w.0)
 
-whole_network : (rs : List Numbered) (o : Option (ℕ × List ℕ)) (made : Mux) → AreFine rs → IfSome o IsFineNetwork → with_network rs o ≡ Ok made → IsFineMux made
-whole_network rs None made f named e = cc e
-whole_network rs (Some network) made f named e = whole_stream rs network (said stream_in (first is_stream rs)) made f named (said_first stream_in IsFineStream in_stream is_stream rs f.each) (first_alone (others_in rs) rs f.others.alone) e
+whole_network : (rs : List Numbered) (o : Option (ℕ × List ℕ)) (made : Mux) → AreTaken rs → IfSome o IsFineNetwork → IfSome o (λ network. coded_size network.1 ≤ sum_of name_bytes rs) → with_network rs o ≡ Ok made → IsFineMux made
+whole_network rs None made t named name e = cc e
+whole_network rs (Some network) made t named name e =
+    whole_stream rs network (said stream_in (first is_stream rs)) made t named name (said_first stream_in IsFineStream in_stream is_stream rs t.fine.each) (first_alone (others_in rs) rs t.fine.others.alone) e
 
-pub fine_end : (rs : List Numbered) (made : Mux) → AreFine rs → ended rs ≡ Ok made → IsFineMux made
-fine_end rs made f e = whole_network rs (said network_in (first is_network rs)) made f (said_first network_in IsFineNetwork in_network is_network rs f.each) e
+pub fine_end : (rs : List Numbered) (made : Mux) → AreTaken rs → ended rs ≡ Ok made → IsFineMux made
+fine_end rs made t e = whole_network rs (said network_in (first is_network rs)) made t (said_first network_in IsFineNetwork in_network is_network rs t.fine.each) (name_room rs) e

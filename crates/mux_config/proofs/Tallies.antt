@@ -11,9 +11,9 @@ use Rattle.mux_model.specs.declared.mux.RemoteService.{RemoteService}
 use Rattle.mux_model.specs.declared.mux.Other.{Other}
 use Rattle.mux_model.specs.Order.{DoCome, all_placed, placed}
 use Rattle.mux_model.specs.Sound.{AreDifferent, comes_before, has_lower_id, has_stream_ids, remote_services}
-use Rattle.mux_config.specs.declared.record.Record.{Record}
-use Rattle.mux_config.specs.declared.record.Record.TheVariants.{Service, Remote}
-use Rattle.mux_config.specs.declared.record.Numbered.{Numbered}
+use Rattle.mux_lines.specs.declared.record.Record.{Record}
+use Rattle.mux_lines.specs.declared.record.Record.TheVariants.{Service, Remote}
+use Rattle.mux_lines.specs.declared.record.Numbered.{Numbered}
 use Rattle.mux_config.specs.Descriptions.{all_of, has_any_id, insert, remote_in, remote_of, service_in, sorted, with_remotes}
 
 abbrev pub tally : {X : Type 0} → (X → Bool) → List X → ℕ

@@ -1,11 +1,13 @@
 -- Worked descriptions.
-use Rattle.std.specs.Prelude.{◌≡◌, ℕ, List, [], ◌∷◌, Option, Some, None, Ok, refl, codes}
+use Rattle.std.specs.Prelude.{◌≡◌, ℕ, List, [], ◌∷◌, Option, Some, None, Ok, Err, refl, codes}
 use Rattle.std.specs.Str.{chars, is_utf8}
-use Rattle.input_lines.specs.Fields.{next_record, strip_bom}
+use Rattle.input_lines.specs.Fields.{fields_compute, next_record, strip_bom}
+use Rattle.guide_model.specs.declared.descriptor.RawDesc.{RawDesc}
 use Rattle.guide_model.specs.declared.stream.Component.{Component}
 use Rattle.si_causes.specs.Text.{AtEnd, PastLimit}
 use Rattle.input_lines.specs.Ahead.{Came, Ends, Found, Row, Stopped, TooLong, ahead_in}
 use Rattle.si_time.specs.Readings as times
+use Rattle.mux_lines.specs.Groups.{groups_compute}
 use Rattle.mux_config.specs.declared.fault.Word.TheVariants.{Network, Stream, Service, End}
 use Rattle.mux_config.specs.declared.fault.MuxFault.TheVariants.{Line, Range, Twice, Missing}
 use Rattle.mux_model.specs.declared.mux.MuxService.{MuxService}
@@ -44,7 +46,12 @@ service id pmt pcr components = record {
   provider = codes "Acme";
   name = codes "One";
   components = components;
+  descriptors = [];
+  program_descriptors = [];
 }
+
+abbrev stream : ℕ → ℕ → Option (List ℕ) → Component
+stream kind pid language = record { stream_type = kind; pid = pid; language = language; descriptors = [] }
 
 -- a service of another stream
 abbrev remote : ℕ → RemoteService
@@ -142,7 +149,7 @@ no_such_service = refl
 
 -- services ascend, and have their components in their order; two may share a PID
 two_services : described (codes "service,102,1,1,300,257,Acme,One" ∷ service_line ∷ codes "component,102,2,41," ∷ codes "component,101,2,41,deu" ∷ codes "component,102,3,40," ∷ network_line ∷ stream_line ∷ end_line ∷ [])
-    ≡ whole (service 101 256 257 (record { stream_type = 2; pid = 41; language = Some (codes "deu") } ∷ []) ∷ service 102 300 257 (record { stream_type = 2; pid = 41; language = None } ∷ record { stream_type = 3; pid = 40; language = None } ∷ []) ∷ []) [] 9
+    ≡ whole (service 101 256 257 (stream 2 41 (Some (codes "deu")) ∷ []) ∷ service 102 300 257 (stream 2 41 None ∷ stream 3 40 None ∷ []) ∷ []) [] 9
 unfolding chars is_utf8 lib.Utf8.encode next_record strip_bom
 two_services = refl
 
@@ -202,3 +209,53 @@ of_own_stream = refl
 part_of_cable : fault_of_text (codes "other,2,1,3120000" ∷ []) ≡ Some (Line 1)
 unfolding chars is_utf8 lib.Utf8.encode next_record strip_bom
 part_of_cable = refl
+
+-- ---- further descriptors
+
+abbrev component_line : List ℕ
+component_line = codes "component,101,6,258,deu"
+
+abbrev desc : ℕ → List ℕ → RawDesc
+desc tag body = record { tag = tag; body = body }
+
+-- a body that is too short behind a good group
+one_of_two : described (network_line ∷ stream_line ∷ service_line ∷ component_line ∷ codes "descriptor,component,101,258,520101 6a028042" ∷ codes "descriptor,stream,9001AA" ∷ codes "descriptor,program,101,09040B00E5DC"
+    ∷ codes "descriptor,network,7F00" ∷ codes "descriptor,service,101,7300 7301" ∷ end_line ∷ [])
+    ≡ Came (Err (Line 9)) (record { rows = (10, end_line) ∷ []; tail = Ends 11 })
+unfolding fields_compute groups_compute
+one_of_two = refl
+
+-- each in its place, in the order of lines; those of one place may stand in several lines
+every_place : described (network_line ∷ stream_line ∷ service_line ∷ component_line ∷ codes "descriptor,component,101,258,520101 6a028042" ∷ codes "descriptor,stream,9001AA" ∷ codes "descriptor,program,101,09040B00E5DC"
+    ∷ codes "descriptor,network,7F00" ∷ codes "descriptor,service,101,7300" ∷ codes "descriptor,stream,9000 9001BB" ∷ end_line ∷ [])
+    ≡ (let whole : MuxService = service 101 256 257 (record { stream_type = 6; pid = 258; language = Some (codes "deu"); descriptors = desc 0x52 (1 ∷ []) ∷ desc 0x6A (0x80 ∷ 0x42 ∷ []) ∷ [] } ∷ []) in
+    let mux : Mux = mux_with (record whole { descriptors = desc 0x73 [] ∷ []; program_descriptors = desc 9 (0x0B ∷ 0 ∷ 0xE5 ∷ 0xDC ∷ []) ∷ [] } ∷ []) in
+    Came (Ok (record mux { network_descriptors = desc 0x7F [] ∷ []; stream_descriptors = desc 0x90 (0xAA ∷ []) ∷ desc 0x90 [] ∷ desc 0x90 (0xBB ∷ []) ∷ [] })) (record { rows = []; tail = Ends 12 }))
+unfolding fields_compute groups_compute
+every_place = refl
+
+-- a length that does not fit; what is made there; no such service, and no such component
+too_short : fault_of_text (network_line ∷ stream_line ∷ service_line ∷ codes "descriptor,stream,5F04000028" ∷ []) ≡ Some (Line 4)
+unfolding fields_compute groups_compute
+too_short = refl
+
+made_there : fault_of_text (network_line ∷ stream_line ∷ service_line ∷ codes "descriptor,stream,4103006501" ∷ []) ≡ Some (Range 4)
+unfolding fields_compute groups_compute
+made_there = refl
+
+of_no_service : fault_of_text (network_line ∷ stream_line ∷ service_line ∷ codes "descriptor,service,102,7300" ∷ []) ≡ Some (Range 4)
+unfolding fields_compute groups_compute
+of_no_service = refl
+
+of_no_component : fault_of_text (network_line ∷ stream_line ∷ service_line ∷ codes "descriptor,component,101,258,5200" ∷ component_line ∷ []) ≡ Some (Range 4)
+unfolding fields_compute groups_compute
+of_no_component = refl
+
+-- a language descriptor of a component that has a language, and of one that has none
+second_language : fault_of_text (network_line ∷ stream_line ∷ service_line ∷ component_line ∷ codes "descriptor,component,101,258,0A04656E6703" ∷ []) ≡ Some (Twice 5 4)
+unfolding fields_compute groups_compute
+second_language = refl
+
+first_language : fault_of_text (network_line ∷ stream_line ∷ service_line ∷ codes "component,101,6,258," ∷ codes "descriptor,component,101,258,0A04656E6703" ∷ end_line ∷ []) ≡ None
+unfolding fields_compute groups_compute
+first_language = refl

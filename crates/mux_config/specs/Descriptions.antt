@@ -1,8 +1,9 @@
 -- The description of a multiplex: the first fault of its lines, or the multiplex that their records make.
 use Rattle.std.specs.Prelude.{ℕ, ◌==◌, nat_le, nat_lt, Bool, true, false, not, ◌&&◌, ◌||◌, List, [], ◌∷◌, ◌++◌, length, map, Option, Some, None, if◌then◌else◌, option_map, Ok, Err, Result}
 use Rattle.std.specs.Option.{is_some, option_or, unwrap_or}
-use Rattle.std.specs.List.{find, filter_map, list_any, fold}
+use Rattle.std.specs.List.{find, filter_map, flat_map, list_any, fold}
 use Rattle.guide_model.specs.declared.offset.Offset.{Offset}
+use Rattle.guide_model.specs.declared.descriptor.RawDesc.{RawDesc}
 use Rattle.guide_model.specs.declared.stream.Cable.{Cable}
 use Rattle.guide_model.specs.declared.stream.Component.{Component}
 use Rattle.si_time.specs.declared.moment.Moment.{Moment}
@@ -16,12 +17,15 @@ use Rattle.mux_model.specs.declared.mux.Other.{Other}
 use Rattle.mux_model.specs.declared.mux.Mux.{Mux}
 use Rattle.mux_model.specs.Order.{all_placed}
 use Rattle.mux_model.specs.Sound.{comes_before, has_lower_id, is_region}
-use Rattle.mux_config.specs.declared.record.Record.{Record}
-use Rattle.mux_config.specs.declared.record.Record.TheVariants.{Network, Stream, Delivery, Service, Part, Start, Quota, Rate, Local, Elsewhere, Remote, End}
-use Rattle.mux_config.specs.declared.record.Numbered.{Numbered}
-use Rattle.mux_config.specs.declared.record.RecordFound.{RecordFound}
-use Rattle.mux_config.specs.declared.record.RecordFound.TheVariants.{NoRecord, OutOfRange, Is}
-use Rattle.mux_config.specs.Fields.{found_line}
+use Rattle.mux_lines.specs.declared.record.Place.{Place}
+use Rattle.mux_lines.specs.declared.record.Place.TheVariants.{InNetwork, InStream, InService, InProgram, InComponent}
+use Rattle.mux_lines.specs.declared.record.Record.{Record}
+use Rattle.mux_lines.specs.declared.record.Record.TheVariants.{Network, Stream, Delivery, Service, Part, Start, Quota, Rate, Local, Elsewhere, Remote, Further, End}
+use Rattle.mux_lines.specs.declared.record.Numbered.{Numbered}
+use Rattle.mux_lines.specs.declared.record.RecordFound.{RecordFound}
+use Rattle.mux_lines.specs.declared.record.RecordFound.TheVariants.{NoRecord, OutOfRange, Is}
+use Rattle.mux_lines.specs.Fields.{found_line}
+use Rattle.mux_config.specs.Taken.{is_full}
 
 -- ---- the records of a kind
 
@@ -92,6 +96,25 @@ said kind (Some r) = kind r.says
 abbrev pub first_line : (Record → Bool) → List Numbered → Option ℕ
 first_line test records = option_map (λ (r : Numbered). r.line) (first test records)
 
+-- ---- further descriptors
+
+-- whether two places are one
+abbrev pub is_same : Place → Place → Bool
+is_same InNetwork InNetwork = true
+is_same InStream InStream = true
+is_same (InService a) (InService b) = a == b
+is_same (InProgram a) (InProgram b) = a == b
+is_same (InComponent a p) (InComponent b q) = a == b && p == q
+is_same a b = false
+
+-- those of a place, in the order of lines
+abbrev pub said_at : Place → Record → List RawDesc
+said_at place (Further there descs) = if is_same there place then descs else []
+said_at place r = []
+
+abbrev pub descriptors_at : Place → List Numbered → List RawDesc
+descriptors_at place records = flat_map (λ (r : Numbered). said_at place r.says) records
+
 -- ---- the faults of a line
 
 abbrev pub is_network : Record → Bool
@@ -146,6 +169,15 @@ abbrev pub has_part : ℕ → ℕ → Record → Bool
 has_part id pid (Part service c) = service == id && c.pid == pid
 has_part id pid r = false
 
+-- one of this service, where it has a language
+abbrev pub is_spoken : ℕ → ℕ → Record → Bool
+is_spoken id pid (Part service c) = service == id && (c.pid == pid && is_some c.language)
+is_spoken id pid r = false
+
+-- an ISO_639_language_descriptor (ISO/IEC 13818-1, 2.6.18)
+abbrev pub is_language_descriptor : RawDesc → Bool
+is_language_descriptor d = d.tag == 0x0A
+
 -- an offset of the region of this one
 abbrev pub has_region : Offset → Record → Bool
 has_region offset (Local o) = is_region o offset
@@ -155,15 +187,28 @@ has_region offset r = false
 abbrev pub holds : ℕ → ℕ → Record → Bool
 holds id pid r = has_pmt pid r || has_part id pid r
 
+-- no earlier service or component with this place
+abbrev pub lacks_place : List Numbered → Place → Bool
+lacks_place before (InService id) = not (list_any (λ (r : Numbered). has_id id r.says) before)
+lacks_place before (InProgram id) = not (list_any (λ (r : Numbered). has_id id r.says) before)
+lacks_place before (InComponent id pid) = not (list_any (λ (r : Numbered). has_part id pid r.says) before)
+lacks_place before place = false
+
+-- the component that has a language, where these descriptors of it are one
+abbrev pub spoken_at : List Numbered → Place → List RawDesc → Option ℕ
+spoken_at before (InComponent id pid) descs = if list_any is_language_descriptor descs then first_line (is_spoken id pid) before else None
+spoken_at before place descs = None
+
 -- Whether the record has no place after these: it is a 65th service, or a component of no earlier service, or the
 -- 17th of its service, or a 17th offset, or a 16th other stream, or a service of no earlier other stream, or the 65th
--- service of other streams.
+-- service of other streams, or further descriptors of no earlier service or component.
 abbrev pub has_no_place : List Numbered → Record → Bool
 has_no_place before (Service s) = nat_le 64 (length (all_of service_in before))
 has_no_place before (Part id c) = not (list_any (λ (r : Numbered). has_id id r.says) before) || nat_le 16 (length (all_of (part_in id) before))
 has_no_place before (Local o) = nat_le 16 (length (all_of local_in before))
 has_no_place before (Elsewhere s o cable) = nat_le 15 (length (all_of other_in before))
 has_no_place before (Remote s o service) = not (list_any (λ (r : Numbered). is_other s o r.says) before) || nat_le 64 (length (all_of remote_in before))
+has_no_place before (Further place descs) = lacks_place before place
 has_no_place before r = false
 
 -- The first line that has what the record repeats. Of a service these are tried in turn: its id, its PMT PID as a PMT
@@ -180,13 +225,16 @@ repeated_at before (Rate n) = first_line is_rate before
 repeated_at before (Local o) = first_line (has_region o) before
 repeated_at before (Elsewhere s o cable) = first_line (has_ids s o) before
 repeated_at before (Remote s o service) = first_line (has_any_id service.service) before
+repeated_at before (Further place descs) = spoken_at before place descs
 repeated_at before End = None
 
 -- the fault of line n behind these records
 abbrev pub fault_of : List Numbered → ℕ → RecordFound → Option MuxFault
 fault_of before n NoRecord = Some (fault.Line n)
 fault_of before n OutOfRange = Some (fault.Range n)
-fault_of before n (Is r) = if has_no_place before r then Some (fault.Range n) else option_map (fault.Twice n) (repeated_at before r)
+fault_of before n (Is r) =
+    if has_no_place before r then Some (fault.Range n)
+    else option_or (option_map (fault.Twice n) (repeated_at before r)) (if is_full before r then Some (fault.Full n) else None)
 
 -- ---- the multiplex of records
 
@@ -198,9 +246,17 @@ insert s (t ∷ ts) = if nat_lt s.service t.service then s ∷ t ∷ ts else t �
 abbrev pub sorted : List MuxService → List MuxService
 sorted services = fold (λ (done : List MuxService) (s : MuxService). insert s done) [] services
 
--- a service with its components among the records
+-- a component of a service with its further descriptors among the records
+abbrev pub with_descriptors : List Numbered → ℕ → Component → Component
+with_descriptors records service c = record c { descriptors = descriptors_at (InComponent service c.pid) records }
+
+-- a service with its components and its further descriptors among the records
 abbrev pub with_parts : List Numbered → MuxService → MuxService
-with_parts records s = record s { components = all_of (part_in s.service) records }
+with_parts records s = record s {
+  components = map (with_descriptors records s.service) (all_of (part_in s.service) records);
+  descriptors = descriptors_at (InService s.service) records;
+  program_descriptors = descriptors_at (InProgram s.service) records;
+}
 
 abbrev pub services_of : List Numbered → List MuxService
 services_of records = map (with_parts records) (sorted (all_of service_in records))
@@ -240,6 +296,8 @@ mux_with network stream records = record {
   offsets = all_of local_in records;
   services = services_of records;
   others = others_of records;
+  network_descriptors = descriptors_at InNetwork records;
+  stream_descriptors = descriptors_at InStream records;
 }
 
 -- ---- a description

@@ -1,4 +1,4 @@
-pub mod Fields
+pub mod Taken
 pub mod Descriptions
 pub mod Texts
 pub mod Kinds
@@ -6,3 +6,4 @@ pub mod Reads
 mod Rows
 mod DescriptionRows
 pub mod Laws
+mod RoomRows

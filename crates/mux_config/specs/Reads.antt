@@ -9,8 +9,8 @@ use Rattle.mux_config.specs.declared.fault.MuxFault.TheVariants.{Missing}
 use Rattle.mux_model.specs.declared.mux.Mux.{Mux}
 use Rattle.mux_config.specs.declared.stop.MuxStop.{MuxStop}
 use Rattle.mux_config.specs.declared.stop.MuxStop.TheVariants.{Fault, Read, Memory}
-use Rattle.mux_config.specs.declared.record.Numbered.{Numbered}
-use Rattle.mux_config.specs.declared.record.RecordFound.{RecordFound}
+use Rattle.mux_lines.specs.declared.record.Numbered.{Numbered}
+use Rattle.mux_lines.specs.declared.record.RecordFound.{RecordFound}
 use Rattle.mux_config.specs.Descriptions.{Description, and_found, description_ahead, fault_of, is_end}
 
 -- what records come to, or want of memory

@@ -14,7 +14,7 @@ differ : (m n : ℕ) → (m == n) ≡ false → m ≢ n
 differ m n h e = false≢true (sym h ∙ eq-eqb m n e)
 
 abbrev stream : ℕ → Option (List ℕ) → Component
-stream pid language = record { stream_type = 3; pid = pid; language = language }
+stream pid language = record { stream_type = 3; pid = pid; language = language; descriptors = [] }
 
 -- a service with this id, the PIDs of its PMT and of its clock reference, and its components
 abbrev service : ℕ → ℕ → ℕ → List Component → MuxService
@@ -27,6 +27,8 @@ service id pmt pcr components = record {
   provider = codes "Acme";
   name = codes "One";
   components = components;
+  descriptors = [];
+  program_descriptors = [];
 }
 
 -- a multiplex with these services
@@ -61,10 +63,14 @@ row_sound = record {
       name = (lit≤ tt, lit≤ tt);
       count = lit≤ tt;
       components = (
-        record { pid = (lit≤ tt, lit≤ tt); language = tt },
-        (record { pid = (lit≤ tt, lit≤ tt); language = (refl, ((lit≤ tt, lit≤ tt), ((lit≤ tt, lit≤ tt), ((lit≤ tt, lit≤ tt), tt)))) }, tt),
+        record { pid = (lit≤ tt, lit≤ tt); language = tt; descriptors = tt },
+        (record { pid = (lit≤ tt, lit≤ tt); language = (refl, ((lit≤ tt, lit≤ tt), ((lit≤ tt, lit≤ tt), ((lit≤ tt, lit≤ tt), tt)))); descriptors = tt }, tt),
       );
       components_once = ((differ 257 258 refl, tt), (tt, tt));
+      descriptors = tt;
+      room = lit≤ tt;
+      program_descriptors = tt;
+      program_room = lit≤ tt;
     },
     (
       record {
@@ -75,8 +81,12 @@ row_sound = record {
         provider = lit≤ tt;
         name = (lit≤ tt, lit≤ tt);
         count = lit≤ tt;
-        components = (record { pid = (lit≤ tt, lit≤ tt); language = (refl, ((lit≤ tt, lit≤ tt), ((lit≤ tt, lit≤ tt), ((lit≤ tt, lit≤ tt), tt)))) }, tt);
+        components = (record { pid = (lit≤ tt, lit≤ tt); language = (refl, ((lit≤ tt, lit≤ tt), ((lit≤ tt, lit≤ tt), ((lit≤ tt, lit≤ tt), tt)))); descriptors = tt }, tt);
         components_once = (tt, tt);
+        descriptors = tt;
+        room = lit≤ tt;
+        program_descriptors = tt;
+        program_room = lit≤ tt;
       },
       tt,
     ),
@@ -88,6 +98,9 @@ row_sound = record {
     ((differ 32 257 refl, (differ 32 258 refl, (differ 32 258 refl, tt))), tt),
   );
   others = record { few = lit≤ tt; each = tt; ascend = tt; apart = tt; few_services = lit≤ tt; once = ((differ 101 102 refl, tt), (tt, tt)) };
+  network_descriptors = tt;
+  stream_descriptors = tt;
+  network_room = lit≤ tt;
 }
 
 -- services in another order, and one that stands twice

@@ -1,15 +1,15 @@
 // Kinds of records, and what a record repeats of those before it. A description has at most 1,189
-// records, so each is held against all before it.
+// records beside those of further descriptors, and of these no more than sections have room for: so
+// each is held against all before it.
 ghost use Rattle.std.specs.Prelude.{◌≡◌, ◌||◌, not, nat_le, length, option_copied};
 ghost use Rattle.std.specs.Option.{option_or, is_some};
 ghost use Rattle.std.specs.List.{count_by, find, list_any};
-ghost use Rattle.mux_config.specs.declared.record.Numbered.{Numbered};
-ghost use Rattle.mux_config.specs.Descriptions.{all_of, has_no_place, repeated_at, first_line, has_any_id, has_id, has_ids, has_pmt, has_pid, has_part, has_region, is_other, is_stream, local_in, other_in, part_in, remote_in, service_in};
+ghost use Rattle.mux_lines.specs.declared.record.Numbered.{Numbered};
+ghost use Rattle.mux_config.specs.Descriptions.{all_of, has_no_place, repeated_at, first_line, has_any_id, has_id, has_ids, has_pmt, has_pid, has_part, has_region, is_language_descriptor, is_other, is_spoken, is_stream, lacks_place, local_in, other_in, part_in, remote_in, service_in, spoken_at};
 ghost use Rattle.mux_config.specs.Kinds.{is_of};
 
-use crate::record::{Numbered, Record};
-use crate::whole::part_of;
-use guide_model::Offset;
+use guide_model::{Offset, RawDesc};
+use mux_lines::{Numbered, Place, Record};
 
 /// The most services of a multiplex, the most components of a service, the most offsets, the most
 /// other streams, and the most services of those.
@@ -25,8 +25,8 @@ const MOST_REMOTES: usize = 64;
 
 // A kind of records: those that come once; offsets of the region of one; services of whatever
 // stream with an id; streams, the own one and others, with these ids; services whose PMT has a PID,
-// and components that have it; those that hold a PID as a PMT or in a service;
-// and all services, the components of one, all offsets, all other streams and all their services.
+// and components that have it; those that hold a PID as a PMT or in a service; the component of a
+// service with a PID, where it has a language; and all services, the components of one, all offsets, all other streams and all their services.
 #[derive(Clone, Copy)]
 pub(crate) enum Kind {
     Networks,
@@ -41,6 +41,7 @@ pub(crate) enum Kind {
     Pmts(u16),
     Pids(u16),
     Holders(u16, u16),
+    Spoken(u16, u16),
     Services,
     Parts(u16),
     Offsets,
@@ -65,8 +66,9 @@ pub(crate) fn is_of_kind(kind: Kind, says: &Record) -> bool
         Kind::Pmts(pid) => has_pmt(pid, says),
         Kind::Pids(pid) => has_pid(pid, says),
         Kind::Holders(id, pid) => has_pmt(pid, says) || has_part(id, pid, says),
+        Kind::Spoken(id, pid) => is_spoken(id, pid, says),
         Kind::Services => matches!(says, Record::Service(_)),
-        Kind::Parts(id) => part_of(id, says).is_some(),
+        Kind::Parts(id) => is_part_of(id, says),
         Kind::Offsets => matches!(says, Record::Local(_)),
         Kind::Others => matches!(says, Record::Elsewhere(_, _, _)),
         Kind::Remotes => matches!(says, Record::Remote(_, _, _)),
@@ -138,11 +140,32 @@ fn has_pid(pid: u16, says: &Record) -> bool
     }
 }
 
+// Whether a record is a component of this service.
+fn is_part_of(id: u16, says: &Record) -> bool
+    ensures { result ≡ is_some (part_in id says.now) }
+{
+    match says {
+        Record::Part(service, _) => *service == id,
+        _ => false,
+    }
+}
+
 fn has_part(id: u16, pid: u16, says: &Record) -> bool
     ensures { result ≡ has_part id pid says.now }
 {
     match says {
         Record::Part(service, component) => *service == id && component.pid == pid,
+        _ => false,
+    }
+}
+
+fn is_spoken(id: u16, pid: u16, says: &Record) -> bool
+    ensures { result ≡ is_spoken id pid says.now }
+{
+    match says {
+        Record::Part(service, component) => {
+            *service == id && (component.pid == pid && component.language.is_some())
+        }
         _ => false,
     }
 }
@@ -194,6 +217,25 @@ fn has_service(id: u16, records: &[Numbered]) -> bool
     records.iter().any(|r| has_id(id, &r.says))
 }
 
+fn has_component(id: u16, pid: u16, records: &[Numbered]) -> bool
+    ensures { result ≡ list_any (λ (r : Numbered). has_part id pid r.says) records.now }
+{
+    records.iter().any(|r| has_part(id, pid, &r.says))
+}
+
+// Whether there is no service or component with a place for further descriptors.
+fn lacks_place(place: Place, records: &[Numbered]) -> bool
+    ensures { result ≡ lacks_place records.now place }
+{
+    match place {
+        Place::InNetwork => false,
+        Place::InStream => false,
+        Place::InService(id) => !has_service(id, records),
+        Place::InProgram(id) => !has_service(id, records),
+        Place::InComponent(id, pid) => !has_component(id, pid, records),
+    }
+}
+
 // Whether there is no service with this id, or it has as many components as it may have.
 fn lacks_room(id: u16, records: &[Numbered]) -> bool
     ensures { result ≡ (not (list_any (λ (r : Numbered). has_id id r.says) records.now) || nat_le 16 (length (all_of (part_in id) records.now))) }
@@ -227,6 +269,7 @@ pub(crate) fn has_no_place(records: &[Numbered], says: &Record) -> bool
         Record::Local(_) => MOST_OFFSETS <= count_of(Kind::Offsets, records),
         Record::Elsewhere(_, _, _) => MOST_OTHERS <= count_of(Kind::Others, records),
         Record::Remote(stream, original, _) => lacks_stream(*stream, *original, records),
+        Record::Further(place, _) => lacks_place(*place, records),
         _ => false,
     }
 }
@@ -254,6 +297,30 @@ fn stream_at(stream: u16, original: u16, records: &[Numbered]) -> Option<u64>
     first_line(Kind::Pairs(stream, original), records)
 }
 
+fn have_language(descriptors: &[RawDesc]) -> bool
+    ensures { result ≡ list_any is_language_descriptor descriptors.now }
+{
+    descriptors.iter().any(
+        |d: &RawDesc| -> bool
+            ensures { result ≡ is_language_descriptor d.now }
+        { d.tag == 0x0A },
+    )
+}
+
+// The line of the component with a language, where descriptors of it are one.
+fn spoken_at(place: Place, descriptors: &[RawDesc], records: &[Numbered]) -> Option<u64>
+    ensures { result ≡ spoken_at records.now place descriptors.now }
+{
+    let Place::InComponent(id, pid) = place else {
+        return None;
+    };
+    if have_language(descriptors) {
+        first_line(Kind::Spoken(id, pid), records)
+    } else {
+        None
+    }
+}
+
 /// The first line that has what a record repeats.
 pub(crate) fn repeated_at(records: &[Numbered], says: &Record) -> Option<u64>
     ensures { result ≡ repeated_at records.now says.now }
@@ -272,6 +339,7 @@ pub(crate) fn repeated_at(records: &[Numbered], says: &Record) -> Option<u64>
             first_line(Kind::Pairs(*stream, *original), records)
         }
         Record::Remote(_, _, service) => first_line(Kind::Ids(service.service), records),
+        Record::Further(place, more) => spoken_at(*place, more.as_slice(), records),
         Record::End => None,
     }
 }

@@ -1,31 +1,21 @@
 // Reading a description from the lines of a text.
-ghost use Rattle.std.specs.Prelude.{◌≡◌, ◌∷◌, ◌++◌, [], IfOk, OnOk};
-ghost use Rattle.mux_config.specs.Descriptions.{is_end as ends_here, numbered};
-ghost use Rattle.mux_config.specs.Fields.{found_line as found_there};
+ghost use Rattle.std.specs.Prelude.{◌≡◌, ◌∷◌, ◌++◌, [], IfOk, OnOk, if◌then◌else◌};
+ghost use Rattle.mux_config.specs.Descriptions.{fault_of, is_end as ends_here, numbered};
+ghost use Rattle.mux_lines.specs.Fields.{found_line as found_there};
 ghost use Rattle.mux_model.specs.Sound.{IsSound};
 ghost use Rattle.mux_config.specs.Reads.{ReadMux, TookLine};
-ghost use Rattle.mux_config.specs.declared.record.RecordFound.TheVariants.{Is};
+ghost use Rattle.mux_lines.specs.declared.record.RecordFound.TheVariants.{Is};
 
 use crate::fault::{MuxFault, Word};
 use crate::kinds::{has_no_place, repeated_at};
-use crate::record::{Numbered, Record, RecordFound};
-use crate::rows::found_in;
+use crate::room::is_full;
 use crate::stop::MuxStop;
 use crate::whole::multiplex;
-use input_lines::{fields, next_record_line};
+use input_lines::next_record_line;
+use mux_lines::{Numbered, Record, RecordFound, found_line};
 use mux_model::Mux;
 use si_causes::{LineReader, Source};
 use std::alloc::{AllocError, Global};
-
-// What a line says.
-fn found_line(alloc: Global, line: &[u8]) -> Result<RecordFound, AllocError>
-    ensures { IfOk result (λ found. found ≡ found_there line.now) }
-{
-    match fields(alloc, line)? {
-        Some(fields) => found_in(alloc, fields.as_slice()),
-        None => Ok(RecordFound::NoRecord),
-    }
-}
 
 fn is_end(says: &Record) -> bool
     ensures { result ≡ ends_here (Is says.now) }
@@ -50,7 +40,21 @@ fn take_line(
     take_record(records, number, says)
 }
 
-// One record more.
+// One record more, unless it is not to be taken.
+fn add_unless(
+    records: &mut Vec<Numbered>,
+    is_left_out: bool,
+    line: u64,
+    says: Record,
+) -> Result<(), AllocError>
+    ensures { OnOk result (records.new.items ≡ (if is_left_out then records.old.items else records.old.items ++ numbered line says ∷ [])) }
+{
+    if is_left_out {
+        return Ok(());
+    }
+    add(records, line, says)
+}
+
 fn add(records: &mut Vec<Numbered>, line: u64, says: Record) -> Result<(), AllocError>
     ensures { OnOk result (records.new.items ≡ records.old.items ++ numbered line says ∷ []) }
 {
@@ -58,22 +62,33 @@ fn add(records: &mut Vec<Numbered>, line: u64, says: Record) -> Result<(), Alloc
     Ok(())
 }
 
+// The fault of the record of a line after these.
+fn fault_of(before: &[Numbered], number: u64, says: &Record) -> Option<MuxFault>
+    ensures { result ≡ fault_of before.now number (Is says.now) }
+{
+    if has_no_place(before, says) {
+        return Some(MuxFault::Range(number));
+    }
+    if let Some(earlier) = repeated_at(before, says) {
+        return Some(MuxFault::Twice(number, earlier));
+    }
+    if is_full(before, says) {
+        return Some(MuxFault::Full(number));
+    }
+    None
+}
+
 // Takes the record of a line.
 fn take_record(records: &mut Vec<Numbered>, number: u64, says: Record) -> Result<bool, MuxStop>
     ensures { TookLine records.old.items number (Is says) records.new.items result }
 {
-    let before = records.as_slice();
-    if has_no_place(before, &says) {
-        return Err(MuxStop::Fault(MuxFault::Range(number)));
+    let fault = fault_of(records.as_slice(), number, &says);
+    let is_last = is_end(&says);
+    add_unless(records, fault.is_some() || is_last, number, says)?;
+    match fault {
+        Some(fault) => Err(MuxStop::Fault(fault)),
+        None => Ok(is_last),
     }
-    if let Some(earlier) = repeated_at(before, &says) {
-        return Err(MuxStop::Fault(MuxFault::Twice(number, earlier)));
-    }
-    if is_end(&says) {
-        return Ok(true);
-    }
-    add(records, number, says)?;
-    Ok(false)
 }
 
 /// Reads the description of a multiplex up to its `end` line, and leaves the lines behind it in the reader.

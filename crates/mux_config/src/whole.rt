@@ -1,10 +1,11 @@
 // The multiplex that records make.
-ghost use Rattle.std.specs.Prelude.{◌≡◌, ◌≤◌, ◌==◌, ◌&&◌, ◌||◌, ◌∷◌, ◌++◌, [], length, nat_lt, option_copied, position, take, drop, IfOk, OnOk};
+ghost use Rattle.std.specs.Prelude.{◌≡◌, ◌≤◌, ◌==◌, ◌&&◌, ◌||◌, ◌∷◌, ◌++◌, [], length, nat_lt, map, option_copied, position, take, drop, IfOk, OnOk};
 ghost use Rattle.std.specs.Option.{unwrap_or};
 ghost use Rattle.mux_model.specs.declared.mux.MuxService.{MuxService};
 ghost use Rattle.mux_model.specs.declared.mux.Other.{Other};
 ghost use Rattle.mux_model.specs.declared.mux.RemoteService.{RemoteService};
-ghost use Rattle.mux_config.specs.Descriptions.{all_of, cable_of as the_cable, ended, first, insert as inserted, is_network, is_stream, local_in, network_in, part_in, quota_of as the_quota, rate_of as the_rate, said, service_in, services_of as the_services, start_of as the_start, stream_in, with_parts as with_its_parts, others_of as the_others, remote_of as the_remote, other_in, with_remotes as with_its_remotes};
+ghost use Rattle.mux_config.specs.Descriptions.{all_of, cable_of as the_cable, descriptors_at, said_at, is_same, with_descriptors as with_its_descriptors, ended, first, insert as inserted, is_network, is_stream, local_in, mux_with, network_in, part_in, quota_of as the_quota, rate_of as the_rate, said, service_in, services_of as the_services, start_of as the_start, stream_in, with_parts as with_its_parts, others_of as the_others, remote_of as the_remote, other_in, with_remotes as with_its_remotes};
+ghost use Rattle.mux_lines.specs.declared.record.Place.TheVariants.{InNetwork, InStream, InService, InProgram};
 ghost use Rattle.mux_model.specs.Order.{all_placed, placed};
 ghost use Rattle.mux_model.specs.Sound.{comes_before, has_lower_id};
 ghost use Rattle.mux_config.specs.Kinds.{put_other, put_remote, put_service};
@@ -13,9 +14,9 @@ ghost use Rattle.std.specs.List.{cons_option};
 
 use crate::fault::{MuxFault, Word};
 use crate::kinds::{Kind, first_of};
-use crate::record::{Numbered, Record};
 use crate::stop::MuxStop;
-use guide_model::{Cable, Component, Components, Offset, Offsets, Txt};
+use guide_model::{Cable, Component, Components, Offset, Offsets, RawDesc, RawDescs, Txt};
+use mux_lines::{Numbered, Place, Record};
 use mux_model::{Mux, MuxService, MuxServices, Other, Others, RemoteService, RemoteServices};
 use si_base::{Copies, Items};
 use si_time::Moment;
@@ -90,13 +91,13 @@ fn rate_of(records: &[Numbered]) -> Option<u32>
 }
 
 // The component of a record, where it is one of this service.
-pub(crate) fn part_of(service: u16, says: &Record) -> Option<Component>
-    ensures { result ≡ part_in service says.now }
+fn part_of(service: u16, says: &Record) -> Option<&Component>
+    ensures { option_copied result ≡ part_in service says.now }
 {
     match says {
         Record::Part(id, component) => {
             if *id == service {
-                Some(*component)
+                Some(component)
             } else {
                 None
             }
@@ -105,23 +106,98 @@ pub(crate) fn part_of(service: u16, says: &Record) -> Option<Component>
     }
 }
 
+// Whether two places are one.
+fn is_same(a: Place, b: Place) -> bool
+    ensures { result ≡ is_same a b }
+{
+    match a {
+        Place::InNetwork => matches!(b, Place::InNetwork),
+        Place::InStream => matches!(b, Place::InStream),
+        Place::InService(id) => matches!(b, Place::InService(other) if other == id),
+        Place::InProgram(id) => matches!(b, Place::InProgram(other) if other == id),
+        Place::InComponent(id, pid) => {
+            matches!(b, Place::InComponent(other, there) if other == id && there == pid)
+        }
+    }
+}
+
+// Appends copies of descriptors.
+fn add_copies(descriptors: &mut RawDescs, more: &[RawDesc]) -> Result<(), AllocError>
+    ensures { OnOk result (descriptors.new ≡ descriptors.old ++ more.now) }
+{
+    'more: for i in 0..more.len() {
+        descriptors.push(more[i].copy()?)?;
+    }
+    Ok(())
+}
+
+// Appends the further descriptors of a record, where they are of this place.
+fn take_descriptors(
+    descriptors: &mut RawDescs,
+    place: Place,
+    says: &Record,
+) -> Result<(), AllocError>
+    ensures { OnOk result (descriptors.new ≡ descriptors.old ++ said_at place says.now) }
+{
+    if let Record::Further(there, more) = says {
+        if is_same(*there, place) {
+            add_copies(descriptors, more.as_slice())?;
+        }
+    }
+    Ok(())
+}
+
+// The further descriptors of a place, in the order of lines.
+fn descriptors_at(alloc: Global, records: &[Numbered], place: Place) -> Result<RawDescs, AllocError>
+    ensures { IfOk result (λ descriptors. descriptors ≡ descriptors_at place records.now) }
+{
+    let mut descriptors = RawDescs::new(alloc);
+    'records: for i in 0..records.len() {
+        take_descriptors(&mut descriptors, place, &records[i].says)?;
+    }
+    Ok(descriptors)
+}
+
+// A component of a service with its further descriptors among the records.
+fn with_descriptors(
+    alloc: Global,
+    records: &[Numbered],
+    service: u16,
+    component: &Component,
+) -> Result<Component, AllocError>
+    ensures { IfOk result (λ whole. whole ≡ with_its_descriptors records.now service component.now) }
+{
+    Ok(Component {
+        stream_type: component.stream_type,
+        pid: component.pid,
+        language: component.language,
+        descriptors: descriptors_at(alloc, records, Place::InComponent(service, component.pid))?,
+    })
+}
+
 // The components of a service.
 fn parts_of(alloc: Global, records: &[Numbered], service: u16) -> Result<Components, AllocError>
-    ensures { IfOk result (λ parts. parts ≡ all_of (part_in service) records.now) }
+    ensures { IfOk result (λ parts. parts ≡ map (with_its_descriptors records.now service) (all_of (part_in service) records.now)) }
 {
     let mut parts = Components::new(alloc);
     'records: for i in 0..records.len() {
-        take_part(&mut parts, service, &records[i].says)?;
+        take_part(alloc, records, &mut parts, service, &records[i].says)?;
     }
     Ok(parts)
 }
 
-// Takes the component of a record, where it is one of this service.
-fn take_part(parts: &mut Components, service: u16, says: &Record) -> Result<(), AllocError>
-    ensures { OnOk result (parts.new ≡ parts.old ++ cons_option (part_in service says.now) []) }
+// Takes the component of a record, where it is one of this service, with its further descriptors.
+fn take_part(
+    alloc: Global,
+    records: &[Numbered],
+    parts: &mut Components,
+    service: u16,
+    says: &Record,
+) -> Result<(), AllocError>
+    ensures { OnOk result (parts.new ≡ parts.old ++ map (with_its_descriptors records.now service) (cons_option (part_in service says.now) [])) }
 {
     if let Some(component) = part_of(service, says) {
-        parts.push(component)?;
+        parts.push(with_descriptors(alloc, records, service, component)?)?;
     }
     Ok(())
 }
@@ -157,7 +233,21 @@ fn take_offset(offsets: &mut Offsets, says: &Record) -> Result<(), AllocError>
     Ok(())
 }
 
-// A service with its components among the records.
+// The further descriptors of a service in the SDT and of its program, and its components.
+fn lists_of(
+    alloc: Global,
+    records: &[Numbered],
+    service: u16,
+) -> Result<(RawDescs, RawDescs, Components), AllocError>
+    ensures { IfOk result (λ lists. lists ≡ (descriptors_at (InService service) records.now, descriptors_at (InProgram service) records.now, map (with_its_descriptors records.now service) (all_of (part_in service) records.now))) }
+{
+    let descriptors = descriptors_at(alloc, records, Place::InService(service))?;
+    let of_program = descriptors_at(alloc, records, Place::InProgram(service))?;
+    let components = parts_of(alloc, records, service)?;
+    Ok((descriptors, of_program, components))
+}
+
+// A service with its components and its further descriptors among the records.
 fn with_parts(
     alloc: Global,
     records: &[Numbered],
@@ -165,15 +255,20 @@ fn with_parts(
 ) -> Result<MuxService, AllocError>
     ensures { IfOk result (λ whole. whole ≡ with_its_parts records.now service.now) }
 {
+    let provider = service.provider.copy()?;
+    let name = service.name.copy()?;
+    let (descriptors, of_program, components) = lists_of(alloc, records, service.service)?;
     Ok(MuxService {
         service: service.service,
         feed: service.feed,
         kind: service.kind,
         pmt_pid: service.pmt_pid,
         pcr_pid: service.pcr_pid,
-        provider: service.provider.copy()?,
-        name: service.name.copy()?,
-        components: parts_of(alloc, records, service.service)?,
+        provider,
+        name,
+        components,
+        descriptors,
+        program_descriptors: of_program,
     })
 }
 
@@ -360,27 +455,37 @@ fn others_of(alloc: Global, records: &[Numbered]) -> Result<Others, AllocError>
     Ok(Items::of(others))
 }
 
-/// The multiplex that these records make, or what is missing.
-pub(crate) fn multiplex(alloc: Global, records: &[Numbered]) -> Result<Mux, MuxStop>
-    ensures { Makes (ended records.now) result }
+// The further descriptors of the network and of the stream, the offsets and the other streams.
+fn rest_of(
+    alloc: Global,
+    records: &[Numbered],
+) -> Result<(RawDescs, RawDescs, Offsets, Others), AllocError>
+    ensures { IfOk result (λ rest. rest ≡ (descriptors_at InNetwork records.now, descriptors_at InStream records.now, all_of local_in records.now, the_others records.now)) }
 {
-    let Some((network, network_name)) = network_of(records)? else {
-        return Err(MuxStop::Fault(MuxFault::Missing(Word::Network)));
-    };
-    let Some((stream, original)) = stream_of(records) else {
-        return Err(MuxStop::Fault(MuxFault::Missing(Word::Stream)));
-    };
-    let services = services_of(alloc, records)?;
-    if services.is_empty() {
-        return Err(MuxStop::Fault(MuxFault::Missing(Word::Service)));
-    }
+    let of_network = descriptors_at(alloc, records, Place::InNetwork)?;
+    let of_stream = descriptors_at(alloc, records, Place::InStream)?;
     let offsets = offsets_of(alloc, records)?;
     let others = others_of(alloc, records)?;
+    Ok((of_network, of_stream, offsets, others))
+}
+
+// The multiplex of a network, a stream and the records, of which these are the services.
+fn mux_with(
+    alloc: Global,
+    records: &[Numbered],
+    network: (u16, Txt),
+    stream: (u16, u16),
+    services: MuxServices,
+) -> Result<Mux, AllocError>
+    requires { services ≡ the_services records.now }
+    ensures { IfOk result (λ mux. mux ≡ mux_with network stream records.now) }
+{
+    let (of_network, of_stream, offsets, others) = rest_of(alloc, records)?;
     Ok(Mux {
-        network,
-        network_name,
-        stream,
-        original,
+        network: network.0,
+        network_name: network.1,
+        stream: stream.0,
+        original: stream.1,
         cable: cable_of(records),
         start: start_of(records),
         quota: quota_of(records),
@@ -388,5 +493,24 @@ pub(crate) fn multiplex(alloc: Global, records: &[Numbered]) -> Result<Mux, MuxS
         offsets,
         services,
         others,
+        network_descriptors: of_network,
+        stream_descriptors: of_stream,
     })
+}
+
+/// The multiplex that these records make, or what is missing.
+pub(crate) fn multiplex(alloc: Global, records: &[Numbered]) -> Result<Mux, MuxStop>
+    ensures { Makes (ended records.now) result }
+{
+    let Some(network) = network_of(records)? else {
+        return Err(MuxStop::Fault(MuxFault::Missing(Word::Network)));
+    };
+    let Some(stream) = stream_of(records) else {
+        return Err(MuxStop::Fault(MuxFault::Missing(Word::Stream)));
+    };
+    let services = services_of(alloc, records)?;
+    if services.is_empty() {
+        return Err(MuxStop::Fault(MuxFault::Missing(Word::Service)));
+    }
+    Ok(mux_with(alloc, records, network, stream, services)?)
 }

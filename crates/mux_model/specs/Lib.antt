@@ -1,4 +1,5 @@
 pub mod Order
+pub mod Rooms
 pub mod Sound
 pub mod Muxes
 pub mod Rows

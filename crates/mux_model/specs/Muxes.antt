@@ -1,4 +1,5 @@
--- A multiplex with what each has, and nothing else: no cable delivery, no bit rate, no offsets and no other stream.
+-- A multiplex with what each has, and nothing else: no cable delivery, no bit rate, no offsets, no other stream and no
+-- further descriptors.
 use Rattle.std.specs.Prelude.{ℕ, List, [], None}
 use Rattle.si_time.specs.declared.moment.Moment.{Moment}
 use Rattle.mux_model.specs.declared.mux.MuxService.{MuxService}
@@ -17,4 +18,6 @@ mux_of network name stream original start quota services = record {
   offsets = [];
   services = services;
   others = [];
+  network_descriptors = [];
+  stream_descriptors = [];
 }

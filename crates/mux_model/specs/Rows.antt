@@ -12,7 +12,7 @@ row_start = record { 0 = 3506716800 }
 
 abbrev pub row_mux : Mux
 row_mux = mux_of 40 (codes "Demo") 1 1 row_start 200
-    (record { service = 101; feed = 1; kind = 1; pmt_pid = 256; pcr_pid = 257; provider = codes "Acme"; name = codes "One"; components = [] } ∷ [])
+    (record { service = 101; feed = 1; kind = 1; pmt_pid = 256; pcr_pid = 257; provider = codes "Acme"; name = codes "One"; components = []; descriptors = []; program_descriptors = [] } ∷ [])
 
 pub row_sound : IsSound row_mux
 row_sound = record {
@@ -34,6 +34,10 @@ row_sound = record {
       count = lit≤ tt;
       components = tt;
       components_once = tt;
+      descriptors = tt;
+      room = lit≤ tt;
+      program_descriptors = tt;
+      program_room = lit≤ tt;
     },
     tt,
   );
@@ -41,4 +45,7 @@ row_sound = record {
   pmts_once = (tt, tt);
   apart = (tt, tt);
   others = record { few = lit≤ tt; each = tt; ascend = tt; apart = tt; few_services = lit≤ tt; once = (tt, tt) };
+  network_descriptors = tt;
+  stream_descriptors = tt;
+  network_room = lit≤ tt;
 }

@@ -11,6 +11,8 @@ use Rattle.mux_model.specs.declared.mux.RemoteService.{RemoteService}
 use Rattle.mux_model.specs.declared.mux.Other.{Other}
 use Rattle.mux_model.specs.declared.mux.Mux.{Mux}
 use Rattle.mux_model.specs.Order.{DoCome}
+use Rattle.mux_model.specs.Rooms.{AreSoundDescriptors, made_of_component, made_of_network, made_of_service, made_of_stream, network_size, program_size}
+use Rattle.guide_model.specs.Descriptors.{descriptors_size}
 
 abbrev pub Between : ℕ → ℕ → ℕ → Type 0
 Between low high n = (low ≤ n) × (n ≤ high)
@@ -38,6 +40,7 @@ HasSoundLanguage (Some letters) = (length letters ≡ 3) × AllByRecursion (Betw
 pub record IsSoundComponent (component : Component) : Type 0 where
   pub pid : Between 32 8190 component.pid
   pub language : HasSoundLanguage component.language
+  pub descriptors : AreSoundDescriptors (made_of_component component.language) component.descriptors
 
 -- no number stands twice
 abbrev pub AreDifferent : List ℕ → Type 0
@@ -57,6 +60,11 @@ pub record IsSoundService (s : MuxService) : Type 0 where
   pub count : length s.components ≤ 16
   pub components : AllByRecursion IsSoundComponent s.components
   pub components_once : AreDifferent (component_pids s)
+  -- its further descriptors in the SDT, where an entry without them has at most 210 of the 1,009 bytes of a section, and in its PMT
+  pub descriptors : AreSoundDescriptors made_of_service s.descriptors
+  pub room : descriptors_size s.descriptors ≤ 799
+  pub program_descriptors : AreSoundDescriptors [] s.program_descriptors
+  pub program_room : program_size s ≤ 1012
 
 -- each id is below the later ones
 abbrev pub DoAscend : List MuxService → Type 0
@@ -153,6 +161,10 @@ pub record IsSound (mux : Mux) : Type 0 where
   pub apart :
       AllByRecursion (λ pmt. AllByRecursion (λ pid. pmt ≢ pid) (all_component_pids mux.services)) (pmt_pids mux.services)
   pub others : AreSoundOthers mux
+  -- the further descriptors of the NIT, which has one section
+  pub network_descriptors : AreSoundDescriptors made_of_network mux.network_descriptors
+  pub stream_descriptors : AreSoundDescriptors made_of_stream mux.stream_descriptors
+  pub network_room : network_size mux ≤ 1012
 
 -- the ids of another stream are of 16 bits
 pub record HasStreamIds (o : Other) : Type 0 where

@@ -1,13 +1,14 @@
 // A multiplex, its services and the other streams of its network.
 ghost use Rattle.std.specs.Prelude.{◌≡◌, IfOk};
 
-use guide_model::{Cable, Components, Offsets, Txt};
+use guide_model::{Cable, Components, Offsets, RawDescs, Txt};
 use si_base::{Copies, Items};
 use si_time::Moment;
 use std::alloc::AllocError;
 
 /// A service of the multiplex: its service_id, the number of the feed that edits it, its service_type (EN 300 468, 6.2.33),
-/// the PIDs of its PMT and of its clock reference (ISO/IEC 13818-1, 2.4.4.8), its first names and its components.
+/// the PIDs of its PMT and of its clock reference (ISO/IEC 13818-1, 2.4.4.8), its first names and its components, and the
+/// further descriptors that its entry of the SDT and its program have.
 #[derive(Drop)]
 pub struct MuxService {
     pub service: u16,
@@ -18,6 +19,8 @@ pub struct MuxService {
     pub provider: Txt,
     pub name: Txt,
     pub components: Components,
+    pub descriptors: RawDescs,
+    pub program_descriptors: RawDescs,
 }
 
 /// Services, in ascending order of their ids.
@@ -54,7 +57,8 @@ pub type Others = Items<Other>;
 /// delivery where it is given, the moment at which its desk starts, the number of packets between
 /// two repeats of its frequent tables, the bit rate at which its air is sent where it is given, in
 /// bits per second, how far the clocks of regions are from UTC (EN 300 468, 5.2.6), its services,
-/// and the other streams of the network.
+/// the other streams of the network, and the further descriptors that the NIT has of the network and
+/// of the stream.
 #[derive(Drop)]
 pub struct Mux {
     pub network: u16,
@@ -68,6 +72,8 @@ pub struct Mux {
     pub offsets: Offsets,
     pub services: MuxServices,
     pub others: Others,
+    pub network_descriptors: RawDescs,
+    pub stream_descriptors: RawDescs,
 }
 
 impl Copies for MuxService {
@@ -81,6 +87,8 @@ impl Copies for MuxService {
             provider: self.provider.copy()?,
             name: self.name.copy()?,
             components: self.components.copy()?,
+            descriptors: self.descriptors.copy()?,
+            program_descriptors: self.program_descriptors.copy()?,
         })
     }
 }
@@ -125,6 +133,8 @@ impl Mux {
             offsets: self.offsets.copy()?,
             services: self.services.copy()?,
             others: self.others.copy()?,
+            network_descriptors: self.network_descriptors.copy()?,
+            stream_descriptors: self.stream_descriptors.copy()?,
         })
     }
 }

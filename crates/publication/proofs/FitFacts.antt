@@ -35,13 +35,13 @@ use Rattle.publication.specs.Present.{present_of, present_table}
 use Rattle.publication.specs.Schedule.{last_table_of, schedule_of, schedule_table, near_tables, far_tables, remote_tables}
 use Rattle.publication.specs.EitLaws.{AreSmallEntries, AreEit}
 use Rattle.publication.proofs.EitFacts.{present_fit, placed_fit}
-use Rattle.descriptors.specs.declared.service_list.ServiceKind.{ServiceKind}
+use Rattle.publication.specs.declared.sdt.ServiceEntry.{ServiceEntry}
 use Rattle.table_bodies.specs.declared.sdt.SdtService.{SdtService}
 use Rattle.publication.specs.Sections.{single_table}
 use Rattle.publication.specs.Programs.{pat_of, pat_key, pat_table, pmt_of, pmt_key, pmt_table, pmt_tables}
-use Rattle.publication.specs.Network.{own_kinds, remote_kinds, nit_of, nit_key, nit_table}
+use Rattle.publication.specs.Network.{nit_of, nit_key, nit_table}
 use Rattle.publication.specs.Parts.{own_guide, remote_guide}
-use Rattle.publication.specs.Sdt.{sdt_services, sdt_sections, service_size, section_body, numbered}
+use Rattle.publication.specs.Sdt.{HasSmallDescriptors, own_entries, remote_entries, sdt_services, sdt_sections, service_size, section_body, numbered}
 use Rattle.publication.specs.Tables.{sdt_key, sdt_table, present_tables, all_near_tables, all_far_tables, other_sdt_key, other_sdt_table, other_sdt_tables, bearer_of, remote_presents, remote_schedules, all_remote_presents, all_remote_schedules, near_part, far_part, tables_of}
 use Rattle.publication.specs.Laws.{HaveSmallEntries, HasSmallSentEntries, PublicationsAreFit}
 use Rattle.table_bodies.specs.Pat.{pat_body}
@@ -50,7 +50,7 @@ use Rattle.table_bodies.specs.Nit.{nit_body}
 use Rattle.mux_model.proofs.FedFacts.{different_parts}
 use Rattle.publication.proofs.PartFacts.{of_any, remote_of_any, own_different, remote_different, apart_parts}
 use Rattle.publication.proofs.ProgramFacts.{pat_short, pmt_short, nit_short}
-use Rattle.publication.proofs.SdtFacts.{length-body, length-numbered, ascend-numbered, services_fit}
+use Rattle.publication.proofs.SdtFacts.{length-body, length-numbered, ascend-numbered, services_fit, own_small, remote_small}
 
 -- ---- which tables a service has
 
@@ -354,10 +354,10 @@ short original n [] h = tt
 short original n (r ∷ runs) h = (omega (arith, length-body original r, h.0), short original (1 + n) runs h.1)
 
 -- an SDT, of this stream or of another, by its sections
-sdt_sections-fit : (key : Key) (tier : Tier3) (original : ℕ) (guide : Guide) (kinds : List ServiceKind) → IsGuideWithin guide → key.pid < 8191 → has_short_form key.table ≡ false → longest_body key.table ≡ 1012
-    → key.table < 0x47 → IsFit (record { key = key; tier = tier; sections = sdt_sections original guide kinds })
-sdt_sections-fit key tier original guide kinds within pid long most below =
-    let services = sdt_services guide kinds in
+sdt_sections-fit : (key : Key) (tier : Tier3) (original : ℕ) (guide : Guide) (entries : List ServiceEntry) → IsGuideWithin guide → AllByRecursion HasSmallDescriptors entries → key.pid < 8191 → has_short_form key.table ≡ false → longest_body key.table ≡ 1012
+    → key.table < 0x47 → IsFit (record { key = key; tier = tier; sections = sdt_sections original guide entries })
+sdt_sections-fit key tier original guide entries within small pid long most below =
+    let services = sdt_services guide entries in
     let runs = longest_runs service_size 1009 services in
     let bodies = map (section_body original) runs in
     record {
@@ -368,7 +368,7 @@ sdt_sections-fit key tier original guide kinds within pid long most below =
       ascending = ascend-numbered 0 bodies;
       bodies = All-from_recursion (λ (s : NumberedBody). length s.body ≤ longest_body key.table) (numbered 0 bodies)
           (all_map (λ (s : NumberedBody). length s.body ≤ 1012) (λ (s : NumberedBody). length s.body ≤ longest_body key.table) (λ s le. omega (arith, most, le)) (numbered 0 bodies)
-          (short original 0 runs (runs_fit service_size 1009 services (services_fit guide kinds within))));
+          (short original 0 runs (runs_fit service_size 1009 services (services_fit guide entries within small))));
     }
 
 eit_fit : (t : SubTable) → t.key.pid ≡ 0x0012 → 0x4E ≤ t.key.table → t.key.table < 0x70 → AreEit t.sections → IsFit t
@@ -617,11 +617,11 @@ sent_fit mux guide sound within small =
           (single_fit (pat_key mux) (pat_body (pat_of mux)) (lit< tt) (omega arith) (pat_short mux sound))
           (pmts_fit mux.services sound.services)
           (single_fit (nit_key mux) (nit_body (nit_of mux)) (lit< tt) (omega arith) (nit_short mux sound))
-          (sdt_sections-fit (sdt_key mux) Fast mux.original guide (own_kinds mux) within (lit< tt) refl refl (omega arith))
+          (sdt_sections-fit (sdt_key mux) Fast mux.original guide (own_entries mux) within (own_small mux.services sound.services) (lit< tt) refl refl (omega arith))
           (λ s q. eit_fit (present_table mux at s) refl (omega arith) (omega arith) (present_fit (own mux) at s q.0))
           (λ s table q above below. eit_fit (schedule_table mux from s table) refl (omega (arith, above)) (omega (arith, below)) (placed_fit (own mux) from s table q.1))
           (record {
-            sdt = λ o r. sdt_sections-fit (other_sdt_key o) Near o.original guide (remote_kinds o) within (lit< tt) refl refl (omega arith);
+            sdt = λ o r. sdt_sections-fit (other_sdt_key o) Near o.original guide (remote_entries o) within (remote_small o.services) (lit< tt) refl refl (omega arith);
             parts = λ o r. r.parts;
             present = λ o s r q. eit_fit (present_of (bearer_of o) at s) refl (omega arith) (omega arith) (present_fit (bearer_of o) at s q.0);
             schedule = λ o s table r q above below. eit_fit (schedule_of (bearer_of o) from s table) refl (omega (arith, above)) (omega (arith, below)) (placed_fit (bearer_of o) from s table q.1);

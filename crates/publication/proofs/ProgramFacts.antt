@@ -1,9 +1,10 @@
 -- The tables of programs and of the network have fields that fit and bodies of at most 1,012 bytes.
-use Rattle.std.proofs.Common.{◌≡◌, ℕ, ◌+◌, ◌*◌, ◌≤◌, List, [], ◌∷◌, length, map, Option, Some, None, IfSome, refl, arith, sum_by, length-append}
+use Rattle.std.proofs.Common.{◌≡◌, ℕ, ◌+◌, ◌*◌, ◌≤◌, List, [], ◌∷◌, length, map, false, ◌==◌, Option, Some, None, IfSome, refl, arith, sum_by, length-append}
 use Rattle.std.specs.List.{All, AllByRecursion, flat_map}
 use Rattle.std.proofs.lemmas.List.{length-map}
 use Rattle.std.proofs.lemmas.List.Sums.{sum_by-cons}
-use Rattle.std.proofs.lemmas.List.Elements.{All-from_recursion}
+use Rattle.std.proofs.lemmas.Bool.Decides.{nat_tests}
+use Rattle.std.proofs.lemmas.List.Elements.{All-from_recursion, All-nil}
 use Rattle.si_lists.proofs.Lists.{all_map, all_to_map, all_two}
 use Rattle.guide_model.specs.Decoding.{shown_bytes}
 use Rattle.guide_model.specs.declared.stream.Cable.{Cable}
@@ -11,15 +12,21 @@ use Rattle.guide_model.specs.declared.stream.Component.{Component}
 use Rattle.mux_model.specs.declared.mux.MuxService.{MuxService}
 use Rattle.mux_model.specs.declared.mux.Other.{Other}
 use Rattle.mux_model.specs.declared.mux.Mux.{Mux}
+use Rattle.guide_model.specs.Descriptors.{descriptors_size}
+use Rattle.guide_model.specs.declared.descriptor.RawDesc.{RawDesc}
+use Rattle.mux_model.specs.Rooms.{AreSoundDescriptors, IsSoundDescriptor, cable_size as room_cable, component_size, is_among, language_size, made_of_component, made_of_network, made_of_stream, network_size, other_size, program_size}
 use Rattle.mux_model.specs.Sound.{IsSound, IsSoundOther, remote_services, IsSoundService, IsSoundComponent, HasSoundCable, HasSoundLanguage}
+use Rattle.descriptors.proofs.Loops.{length-descriptors_bytes}
 use Rattle.descriptors.proofs.Pieces.{length-coded_text}
+use Rattle.descriptors.specs.Descriptors.{FitsDescriptor, descriptors_bytes}
 use Rattle.descriptors.specs.CableDelivery.{FitsCable}
 use Rattle.descriptors.proofs.ServiceEntries.{length-languages_body}
 use Rattle.table_bodies.specs.declared.pat.PatEntry.{PatEntry}
 use Rattle.table_bodies.specs.Pat.{pat_body, HasPid as HasProgramPid}
-use Rattle.table_bodies.specs.Pmt.{HasPid, FitsComponent, FitsPmt, component_bytes, language_descriptors, pmt_body}
+use Rattle.table_bodies.specs.Entries.{entry_bytes}
+use Rattle.table_bodies.specs.Pmt.{IsWritable, FitsComponent, FitsPmt, component_bytes, language_descriptors, pmt_body, program_entry as program_entry_of}
 use Rattle.table_bodies.proofs.Networks.{cable_small, nit-has_its_size}
-use Rattle.table_bodies.specs.Nit.{FitsStream, CanBeWritten, nit_body, stream_size}
+use Rattle.table_bodies.specs.Nit.{FitsStream, HasNetworkRoom, CanBeWritten, cable_size, nit_body, stream_size}
 use Rattle.publication.specs.Programs.{program_entry, pat_of, pmt_of}
 use Rattle.publication.specs.Network.{kind_of, remote_kind, stream_of, other_stream, nit_of}
 
@@ -41,37 +48,73 @@ pat_short mux sound = omega (arith, length-programs (pat_of mux), length-map mux
 
 -- ---- PMTs
 
-pub components_fit : (s : MuxService) → IsSoundService s → All HasPid s.components
-components_fit s sound =
-    All-from_recursion HasPid s.components
-    (all_map IsSoundComponent HasPid (λ c fits. omega (arith, fits.pid.1)) s.components sound.components)
+-- each body of sound descriptors fits its length
+pub bodies_fit : (made : List ℕ) (ds : List RawDesc) → AreSoundDescriptors made ds → AllByRecursion FitsDescriptor ds
+bodies_fit made ds sound = all_map (IsSoundDescriptor made) FitsDescriptor (λ d fits. omega (arith, fits.body)) ds sound
 
 language_fits : (l : Option (List ℕ)) → HasSoundLanguage l → IfSome l (λ language. length language ≡ 3)
 language_fits None sound = tt
 language_fits (Some l) sound = sound.0
 
+language_long : (l : Option (List ℕ)) → HasSoundLanguage l → 5 + length (language_descriptors l) ≡ language_size l
+language_long None sound = refl
+language_long (Some l) sound = omega (arith, length-languages_body (l ∷ []) (sound.0, tt))
+
+component_long : (c : Component) → IsSoundComponent c → length (component_bytes c) ≡ component_size c
+component_long c sound =
+    omega (arith, length-append (language_descriptors c.language) (descriptors_bytes c.descriptors), length-descriptors_bytes c.descriptors, language_long c.language sound.language)
+
+components_long : (cs : List Component) → AllByRecursion IsSoundComponent cs → length (flat_map component_bytes cs) ≡ sum_by component_size cs
+components_long [] sound = refl
+components_long (c ∷ cs) sound =
+    omega (arith, length-append (component_bytes c) (flat_map component_bytes cs), sum_by-cons component_size c cs, component_long c sound.0, components_long cs sound.1)
+
+pub pmt_long : (s : MuxService) → IsSoundService s → length (pmt_body (pmt_of s)) ≡ program_size s
+pmt_long s sound = omega (
+  arith,
+  length-descriptors_bytes s.program_descriptors,
+  components_long s.components sound.components,
+  length-append (entry_bytes (program_entry_of (pmt_of s).pcr_pid s.program_descriptors)) (flat_map component_bytes s.components),
+)
+
+pub pmt_short : (s : MuxService) → IsSoundService s → length (pmt_body (pmt_of s)) ≤ 1012
+pmt_short s sound = omega (arith, pmt_long s sound, sound.program_room)
+
+-- no component takes more than all
+each_within : (cs : List Component) (n : ℕ) → sum_by component_size cs ≤ n → AllByRecursion (λ (c : Component). component_size c ≤ n) cs
+each_within [] n le = tt
+each_within (c ∷ cs) n le =
+    (omega (arith, sum_by-cons component_size c cs, le), each_within cs n (omega (arith, sum_by-cons component_size c cs, le)))
+
+writable : (c : Component) → IsSoundComponent c → component_size c ≤ 1012 → IsWritable c
+writable c sound few = record {
+  pid = omega (arith, sound.pid.1);
+  bodies = All-from_recursion FitsDescriptor c.descriptors (bodies_fit (made_of_component c.language) c.descriptors sound.descriptors);
+  room = omega (arith, few);
+}
+
+components_writable : (s : MuxService) → IsSoundService s → AllByRecursion IsWritable s.components
+components_writable s sound =
+    all_two IsSoundComponent (λ (c : Component). component_size c ≤ 1012) IsWritable writable s.components sound.components
+    (each_within s.components 1012 (omega (arith, sound.program_room)))
+
+pub components_fit : (s : MuxService) → IsSoundService s → All IsWritable s.components
+components_fit s sound = All-from_recursion IsWritable s.components (components_writable s sound)
+
+pub program_bodies : (s : MuxService) → IsSoundService s → All FitsDescriptor s.program_descriptors
+program_bodies s sound = All-from_recursion FitsDescriptor s.program_descriptors (bodies_fit [] s.program_descriptors sound.program_descriptors)
+
+pub program_few : (s : MuxService) → IsSoundService s → descriptors_size s.program_descriptors ≤ 4095
+program_few s sound = omega (arith, sound.program_room)
+
 pub pmt_fits : (s : MuxService) → IsSoundService s → FitsPmt (pmt_of s)
 pmt_fits s sound = record {
   pcr_pid = omega (arith, sound.pcr_pid.1);
-  components = all_map IsSoundComponent FitsComponent
-      (λ c fits. record { pid = omega (arith, fits.pid.1); language = language_fits c.language fits.language })
-      s.components sound.components;
+  room = program_few s sound;
+  components = all_two IsSoundComponent IsWritable FitsComponent
+      (λ c fits can. record { writable = can; language = language_fits c.language fits.language })
+      s.components sound.components (components_writable s sound);
 }
-
-language_short : (l : Option (List ℕ)) → HasSoundLanguage l → length (language_descriptors l) ≤ 6
-language_short None sound = omega arith
-language_short (Some l) sound = omega (arith, length-languages_body (l ∷ []) (sound.0, tt))
-
-component_short : (c : Component) → IsSoundComponent c → length (component_bytes c) ≤ 11
-component_short c sound = omega (arith, language_short c.language sound.language)
-
-components_short : (cs : List Component) → AllByRecursion IsSoundComponent cs → length (flat_map component_bytes cs) ≤ 11 * length cs
-components_short [] sound = omega arith
-components_short (c ∷ cs) sound =
-    omega (arith, length-append (component_bytes c) (flat_map component_bytes cs), component_short c sound.0, components_short cs sound.1)
-
-pub pmt_short : (s : MuxService) → IsSoundService s → length (pmt_body (pmt_of s)) ≤ 1012
-pmt_short s sound = omega (arith, components_short s.components sound.components, sound.count)
 
 -- ---- NIT
 
@@ -87,6 +130,10 @@ cable_fits (Some c) sound = record {
 pub name_fits : (mux : Mux) → IsSound mux → length (shown_bytes (nit_of mux).name) ≤ 255
 name_fits mux sound = omega (arith, length-coded_text mux.network_name, sound.network_name.1)
 
+same_cable : (c : Option Cable) → cable_size c ≡ room_cable c
+same_cable None = refl
+same_cable (Some c) = refl
+
 -- none of the other streams has more than 64 services
 pub services_few : (others : List Other) → length (remote_services others) ≤ 64 → AllByRecursion (λ (o : Other). length o.services ≤ 64) others
 services_few [] few = tt
@@ -94,37 +141,71 @@ services_few (o ∷ os) few =
     let parts = length-append o.services (remote_services os) in
     (omega (arith, parts, few), services_few os (omega (arith, parts, few)))
 
+other_long : (o : Other) → stream_size (other_stream o) ≡ other_size o
+other_long o = omega (arith, length-map o.services remote_kind, same_cable o.cable)
+
+others_long : (os : List Other) → sum_by stream_size (map other_stream os) ≡ sum_by other_size os
+others_long [] = refl
+others_long (o ∷ os) =
+    omega (arith, sum_by-cons stream_size (other_stream o) (map other_stream os), sum_by-cons other_size o os, other_long o, others_long os)
+
 others_fit : (others : List Other) → AllByRecursion IsSoundOther others → AllByRecursion (λ (o : Other). length o.services ≤ 64) others → AllByRecursion FitsStream (map other_stream others)
 others_fit others sound few =
     all_to_map FitsStream other_stream others
     (all_two IsSoundOther (λ (o : Other). length o.services ≤ 64) (λ (o : Other). FitsStream (other_stream o))
-    (λ o is small. record { cable = cable_fits o.cable is.cable; services = omega (arith, length-map o.services remote_kind, small) }) others sound few)
+    (λ o is small. record {
+      cable = cable_fits o.cable is.cable;
+      services = omega (arith, length-map o.services remote_kind, small);
+      bodies = All-nil FitsDescriptor;
+      room = omega (arith, length-map o.services remote_kind, small, cable_small o.cable);
+    }) others sound few)
 
-pub streams_fit : (mux : Mux) → IsSound mux → All FitsStream (nit_of mux).streams
-streams_fit mux sound = All-from_recursion FitsStream (nit_of mux).streams (
-  record { cable = cable_fits mux.cable sound.cable; services = omega (arith, length-map mux.services kind_of, sound.count.1) },
-  others_fit mux.others sound.others.each (services_few mux.others sound.others.few_services),
-)
+-- the streams, and the whole body, are those of the room
+streams_long : (mux : Mux) → sum_by stream_size (nit_of mux).streams ≡ stream_size (stream_of mux) + sum_by other_size mux.others
+streams_long mux = omega (arith, sum_by-cons stream_size (stream_of mux) (map other_stream mux.others), others_long mux.others)
 
-others_short : (others : List Other) → sum_by stream_size (map other_stream others) ≤ 21 * length others + 3 * length (remote_services others)
-others_short [] = omega arith
-others_short (o ∷ os) =
-    let here : sum_by stream_size (map other_stream (o ∷ os)) ≡ stream_size (other_stream o) + sum_by stream_size (map other_stream os) = sum_by-cons stream_size (other_stream o) (map other_stream os) in
-    let services : length (remote_services (o ∷ os)) ≡ length o.services + length (remote_services os) = length-append o.services (remote_services os) in
-    let kinds : length (map remote_kind o.services) ≡ length o.services = length-map o.services remote_kind in
-    let rest : sum_by stream_size (map other_stream os) ≤ 21 * length os + 3 * length (remote_services os) = others_short os in
-    let one : stream_size (other_stream o) ≤ 21 + 3 * length o.services = omega (arith, cable_small o.cable, kinds) in
-    omega (arith, here, services, rest, one)
+own_long : (mux : Mux) → stream_size (stream_of mux) ≡ 8 + room_cable mux.cable + 3 * length mux.services + descriptors_size mux.stream_descriptors
+own_long mux = omega (arith, length-map mux.services kind_of, same_cable mux.cable)
 
--- at most 213 bytes of this stream, 21 of each other one, and 3 of each of their services
-pub streams_short : (mux : Mux) → IsSound mux → sum_by stream_size (nit_of mux).streams ≤ 720
-streams_short mux sound =
-    let all : sum_by stream_size (nit_of mux).streams ≡ stream_size (stream_of mux) + sum_by stream_size (map other_stream mux.others) = sum_by-cons stream_size (stream_of mux) (map other_stream mux.others) in
-    omega (arith, all, cable_small mux.cable, length-map mux.services kind_of, sound.count.1, others_short mux.others, sound.others.few, sound.others.few_services)
-
-pub nit_fits : (mux : Mux) → IsSound mux → CanBeWritten (nit_of mux)
-nit_fits mux sound = record { name = name_fits mux sound; streams = streams_fit mux sound; within = omega (arith, streams_short mux sound) }
+pub nit_long : (mux : Mux) → length (nit_body (nit_of mux)) ≡ network_size mux
+nit_long mux = omega (arith, nit-has_its_size (nit_of mux), length-coded_text mux.network_name, streams_long mux, own_long mux)
 
 pub nit_short : (mux : Mux) → IsSound mux → length (nit_body (nit_of mux)) ≤ 1012
-nit_short mux sound =
-    omega (arith, nit-has_its_size (nit_of mux), length-coded_text mux.network_name, sound.network_name.1, streams_short mux sound)
+nit_short mux sound = omega (arith, nit_long mux, sound.network_room)
+
+pub streams_short : (mux : Mux) → IsSound mux → sum_by stream_size (nit_of mux).streams ≤ 1012
+streams_short mux sound = omega (arith, streams_long mux, own_long mux, sound.network_room)
+
+own_fits : (mux : Mux) → IsSound mux → FitsStream (stream_of mux)
+own_fits mux sound = record {
+  cable = cable_fits mux.cable sound.cable;
+  services = omega (arith, length-map mux.services kind_of, sound.count.1);
+  bodies = All-from_recursion FitsDescriptor mux.stream_descriptors (bodies_fit made_of_stream mux.stream_descriptors sound.stream_descriptors);
+  room = omega (arith, own_long mux, sound.network_room);
+}
+
+pub streams_fit : (mux : Mux) → IsSound mux → All FitsStream (nit_of mux).streams
+streams_fit mux sound =
+    All-from_recursion FitsStream (nit_of mux).streams (own_fits mux sound, others_fit mux.others sound.others.each (services_few mux.others sound.others.few_services))
+
+pub network_fits : (mux : Mux) → IsSound mux → HasNetworkRoom (nit_of mux)
+network_fits mux sound = omega (arith, length-coded_text mux.network_name, sound.network_room)
+
+pub network_bodies : (mux : Mux) → IsSound mux → All FitsDescriptor (nit_of mux).descriptors
+network_bodies mux sound = All-from_recursion FitsDescriptor mux.network_descriptors (bodies_fit made_of_network mux.network_descriptors sound.network_descriptors)
+
+pub nit_fits : (mux : Mux) → IsSound mux → CanBeWritten (nit_of mux)
+nit_fits mux sound = record {
+  name = name_fits mux sound;
+  bodies = network_bodies mux sound;
+  room = network_fits mux sound;
+  streams = streams_fit mux sound;
+  within = omega (arith, streams_short mux sound);
+}
+
+-- no further descriptor of the stream is a cable_delivery_system
+pub no_cable : (ds : List RawDesc) → AreSoundDescriptors made_of_stream ds → AllByRecursion (λ (d : RawDesc). (d.tag == 0x44) ≡ false) ds
+no_cable ds sound = all_map (IsSoundDescriptor made_of_stream) (λ (d : RawDesc). (d.tag == 0x44) ≡ false) (λ d is. second d.tag is.free) ds sound
+  where
+    second : (tag : ℕ) → is_among made_of_stream tag ≡ false → (tag == 0x44) ≡ false
+    second tag free = grind (arith, nat_tests)

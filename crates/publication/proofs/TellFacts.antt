@@ -48,13 +48,13 @@ use Rattle.table_bodies.specs.Sdt.{is_sdt_body}
 use Rattle.table_bodies.proofs.Networks.{written_nits}
 use Rattle.publication.specs.Sections.{single_table}
 use Rattle.publication.specs.Programs.{pat_of, pat_key, pat_table, pmt_of, pmt_key, pmt_table}
-use Rattle.publication.specs.Network.{kind_of, remote_kind, own_kinds, remote_kinds, nit_of, nit_key, nit_table}
+use Rattle.publication.specs.Network.{nit_of, nit_key, nit_table}
 use Rattle.publication.specs.Parts.{own_guide, remote_guide}
-use Rattle.publication.specs.Sdt.{sdt_sections}
+use Rattle.publication.specs.Sdt.{entry_of, own_entries, remote_entries, remote_entry, sdt_sections}
 use Rattle.publication.specs.Tables.{bearer_of}
 use Rattle.publication.specs.Laws.{HasPartsOf, IsReadEit, IsSdtBody, AreSdt, TellsKey, TellsItself, PublicationsTellThemselves}
 use Rattle.publication.proofs.PartFacts.{of_own, of_remote, others_have, by_ids, by_remote_ids}
-use Rattle.publication.proofs.SdtFacts.{sdt_fit}
+use Rattle.publication.proofs.SdtFacts.{own_small, remote_small, sdt_fit}
 use Rattle.publication.proofs.ProgramFacts.{services_few, pmt_fits, nit_fits}
 use Rattle.publication.proofs.FitFacts.{each_pmt, each_sub_table}
 
@@ -275,13 +275,13 @@ publication_tells mux guide sound services within typed =
     (pat_tells mux sound.stream)
     (each_pmt TellsItself IsSoundService pmt_tells mux.services sound.sound.services)
     (nit_tells mux sound.sound sound.network)
-    (sdt_tells 0x42 mux.stream mux.original Fast (sdt_sections mux.original guide (own_kinds mux)) refl (omega arith) refl sound.stream
-    (sdt_fit mux.original guide (own_kinds mux) sound.original (omega (arith, length-map mux.services kind_of, sound.sound.count.1)) within))
+    (sdt_tells 0x42 mux.stream mux.original Fast (sdt_sections mux.original guide (own_entries mux)) refl (omega arith) refl sound.stream
+    (sdt_fit mux.original guide (own_entries mux) sound.original (omega (arith, length-map mux.services entry_of, sound.sound.count.1)) within (own_small mux.services sound.sound.services)))
     (λ s q. present_tells (own mux) sound.stream sound.original refl refl (omega arith) moment s q)
     (λ s table q above below. schedule_tells (own mux) sound.stream sound.original day s table above (omega (arith, below)) q)
     (record {
-      sdt = λ o r. sdt_tells 0x46 o.stream o.original Near (sdt_sections o.original guide (remote_kinds o)) refl (omega arith) refl r.stream
-          (sdt_fit o.original guide (remote_kinds o) r.original (omega (arith, length-map o.services remote_kind, r.few)) within);
+      sdt = λ o r. sdt_tells 0x46 o.stream o.original Near (sdt_sections o.original guide (remote_entries o)) refl (omega arith) refl r.stream
+          (sdt_fit o.original guide (remote_entries o) r.original (omega (arith, length-map o.services remote_entry, r.few)) within (remote_small o.services));
       parts = λ o r. r.parts;
       present = λ o s r q. present_tells (bearer_of o) r.stream r.original refl refl (omega arith) moment s q;
       schedule = λ o s table r q above below. schedule_tells (bearer_of o) r.stream r.original day s table (omega (arith, above)) (omega (arith, below)) q;

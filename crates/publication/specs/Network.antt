@@ -27,17 +27,17 @@ own_kinds mux = map kind_of mux.services
 abbrev pub remote_kinds : Other → List ServiceKind
 remote_kinds other = map remote_kind other.services
 
--- the transport stream of the multiplex: how it is sent by cable, where that is told, and its services
+-- the transport stream of the multiplex: how it is sent by cable, where that is told, its services, and its further descriptors
 abbrev pub stream_of : Mux → NitStream
 stream_of mux = record {
   stream = mux.stream;
   original = mux.original;
   cable = mux.cable;
   services = own_kinds mux;
-  descriptors = [];
+  descriptors = mux.stream_descriptors;
 }
 
--- another stream, by the same
+-- another stream, by the same; it has no further descriptors
 abbrev pub other_stream : Other → NitStream
 other_stream other = record {
   stream = other.stream;
@@ -47,9 +47,13 @@ other_stream other = record {
   descriptors = [];
 }
 
--- the name of the network, this stream, and then the others
+-- the name of the network, its further descriptors, this stream, and then the others
 abbrev pub nit_of : Mux → Nit
-nit_of mux = record { name = Text mux.network_name; descriptors = []; streams = stream_of mux ∷ map other_stream mux.others }
+nit_of mux = record {
+  name = Text mux.network_name;
+  descriptors = mux.network_descriptors;
+  streams = stream_of mux ∷ map other_stream mux.others;
+}
 
 -- what names the NIT of the actual network: PID 0x0010, table_id 0x40 and network_id
 abbrev pub nit_key : Mux → Key

@@ -33,9 +33,9 @@ pat_table mux = single_table (pat_key mux) (pat_body (pat_of mux))
 
 -- ---- PMTs
 
--- the clock reference of a service, and its components in their order
+-- the clock reference of a service, the further descriptors of its program, and its components in their order
 abbrev pub pmt_of : MuxService → Pmt
-pmt_of s = record { pcr_pid = s.pcr_pid; components = s.components }
+pmt_of s = record { pcr_pid = s.pcr_pid; descriptors = s.program_descriptors; components = s.components }
 
 -- what names the PMT of a service: its PID, table_id 0x02 and program_number, which is its service_id
 abbrev pub pmt_key : MuxService → Key

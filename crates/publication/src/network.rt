@@ -15,8 +15,8 @@ use table_bodies::{Nit, NitStream, NitStreams, write_nit};
 /// The table_id of the network information table of the actual network (EN 300 468, 5.1.3).
 const NIT: u8 = 0x40;
 
-/// The ids and the types of these services.
-pub(crate) fn kinds(alloc: Global, services: &[MuxService]) -> Result<ServiceKinds, AllocError>
+// The ids and the types of these services.
+fn kinds(alloc: Global, services: &[MuxService]) -> Result<ServiceKinds, AllocError>
     ensures { IfOk result (λ kinds. kinds ≡ map kind_of services.now) }
 {
     let mut kinds = ServiceKinds::new(alloc);
@@ -29,8 +29,8 @@ pub(crate) fn kinds(alloc: Global, services: &[MuxService]) -> Result<ServiceKin
     Ok(kinds)
 }
 
-/// The ids and the types of the services of another stream.
-pub(crate) fn remote_kinds(alloc: Global, other: &Other) -> Result<ServiceKinds, AllocError>
+// The ids and the types of the services of another stream.
+fn remote_kinds(alloc: Global, other: &Other) -> Result<ServiceKinds, AllocError>
     ensures { IfOk result (λ kinds. kinds ≡ remote_kinds other.now) }
 {
     let mut kinds = ServiceKinds::new(alloc);
@@ -52,7 +52,7 @@ fn stream(alloc: Global, mux: &Mux) -> Result<NitStream, AllocError>
         original: mux.original,
         cable: mux.cable,
         services: kinds(alloc, mux.services.as_slice())?,
-        descriptors: RawDescs::new(alloc),
+        descriptors: mux.stream_descriptors.copy()?,
     })
 }
 
@@ -69,7 +69,7 @@ fn other_stream(alloc: Global, other: &Other) -> Result<NitStream, AllocError>
     })
 }
 
-// The name of the network, this stream and the others.
+// The name of the network, its further descriptors, this stream and the others.
 fn network(alloc: Global, mux: &Mux) -> Result<Nit, AllocError>
     ensures { IfOk result (λ nit. nit ≡ nit_of mux.now) }
 {
@@ -80,7 +80,7 @@ fn network(alloc: Global, mux: &Mux) -> Result<Nit, AllocError>
     }
     Ok(Nit {
         name: Shown::Text(mux.network_name.copy()?),
-        descriptors: RawDescs::new(alloc),
+        descriptors: mux.network_descriptors.copy()?,
         streams,
     })
 }

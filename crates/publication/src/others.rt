@@ -9,9 +9,8 @@ ghost use Rattle.publication.specs.Parts.{remote_guide};
 ghost use Rattle.publication.specs.Sdt.{sdt_sections};
 ghost use Rattle.publication.specs.Tables.{HasServicesOf, all_remote_presents, all_remote_schedules, other_sdt_table, other_sdt_tables, remote_presents, remote_schedules};
 
-use crate::network::remote_kinds;
 use crate::parts::part_in;
-use crate::sdt::sdt_sections;
+use crate::sdt::{remote_entries, sdt_sections};
 use crate::{Stream, put_remote};
 use mux_model::{Mux, Other};
 use page_share::PageGuide;
@@ -44,7 +43,7 @@ fn other_sdt_table(alloc: Global, guide: &PageGuide, other: &Other) -> Result<Su
         stream: 0,
         network: other.original,
     };
-    let services = remote_kinds(alloc, other)?;
+    let services = remote_entries(alloc, other)?;
     Ok(SubTable {
         key,
         tier: Tier3::Near,

@@ -62,6 +62,7 @@ fn program(service: &MuxService) -> Result<Pmt, AllocError>
 {
     Ok(Pmt {
         pcr_pid: service.pcr_pid,
+        descriptors: service.program_descriptors.copy()?,
         components: service.components.copy()?,
     })
 }

@@ -1,5 +1,5 @@
 -- The entry of an event shows that event.
-use Rattle.std.proofs.Common.{◌≡◌, ℕ, suc, ◌-◌, ◌*◌, ◌+◌, ◌<◌, Bool, true, false, List, [], ◌∷◌, ◌++◌, length, map, Option, Some, None, IfSome, refl, sym, ap, ap₂, ◌∙◌, append_assoc, arith, if◌then◌else◌}
+use Rattle.std.proofs.Common.{◌≡◌, ℕ, suc, ◌-◌, ◌<◌, Bool, true, false, List, [], ◌∷◌, ◌++◌, length, map, Option, Some, None, IfSome, refl, sym, ap, ap₂, ◌∙◌, append_assoc, arith, if◌then◌else◌}
 use Rattle.std.specs.Prelude.{◌==◌, ◌&&◌, not, filter, is_some, slice_index}
 use Rattle.si_lists.proofs.Lists.{three_of}
 use Rattle.std.specs.Option.{option_or}
@@ -24,12 +24,12 @@ use Rattle.descriptors.specs.Descriptors.{descriptor_bytes}
 use Rattle.descriptors.specs.ShortEvent.{short_event_body, short_event_in}
 use Rattle.descriptors.specs.ExtendedEvent.{extended_event_body, extended_event_fields, extended_event_in}
 use Rattle.descriptors.specs.Content.{content_body, content_in, HasNibbles}
-use Rattle.descriptors.specs.ParentalRating.{parental_rating_body, parental_rating_in, HasThreeLetters}
+use Rattle.descriptors.specs.ParentalRating.{parental_rating_body, parental_rating_in, is_one_rating, HasThreeLetters}
 use Rattle.descriptors.specs.EventDescriptors.{numbered, event_descriptors, content_of, rating_of}
 use Rattle.descriptors.proofs.EventEntries.{content-reads_back, parental_rating-reads_back}
 use Rattle.descriptors.proofs.Fields.{short_event-reads_back, extended_event-reads_back}
 use Rattle.descriptors.proofs.Pieces.{few_pieces}
-use Rattle.table_bodies.specs.First.{said_by, first_in, without_first, always}
+use Rattle.descriptors.specs.First.{first_in, without_first, always}
 use Rattle.table_bodies.specs.ShownEvent as shows
 use Rattle.table_bodies.specs.Eit.{IsTyped, IsCodable, shown_event}
 
@@ -161,18 +161,18 @@ pieces-stay tag read whole apart n last language (p ∷ ps) ds =
     ap (λ (t : Bool). if is_some (if t then read d.body else None) then (if whole d.body then more else d ∷ more) else d ∷ without_first tag read whole more) apart
     ∙ ap (λ (xs : List RawDesc). d ∷ xs) (pieces-stay tag read whole apart (suc n) last language ps ds)
 
-one-rating : (r : Rating) → HasThreeLetters r → shows.is_one_rating (parental_rating_body (r ∷ [])) ≡ true
-one-rating r three = let t = three_of r.country three in ap (λ (code : List ℕ). shows.is_one_rating ((code ++ r.value ∷ []) ++ [])) t.3
+one-rating : (r : Rating) → HasThreeLetters r → is_one_rating (parental_rating_body (r ∷ [])) ≡ true
+one-rating r three = let t = three_of r.country three in ap (λ (code : List ℕ). is_one_rating ((code ++ r.value ∷ []) ++ [])) t.3
 
-rating-shown : (r : Rating) → HasThreeLetters r → without_first 0x55 parental_rating_in shows.is_one_rating (rating_descs (Some r)) ≡ []
+rating-shown : (r : Rating) → HasThreeLetters r → without_first 0x55 parental_rating_in is_one_rating (rating_descs (Some r)) ≡ []
 rating-shown r three =
     let d : List RawDesc = rating_descs (Some r) in
-    let whole = shows.is_one_rating (parental_rating_body (r ∷ [])) in
+    let whole = is_one_rating (parental_rating_body (r ∷ [])) in
     ap (λ o. if is_some o then (if whole then [] else d) else d) (parental_rating-reads_back (r ∷ []) (three, tt))
     ∙ ap (λ (b : Bool). if b then [] else d) (one-rating r three)
 
 rating-left : (genres : List Genre) (r : Option Rating) → IfSome r HasThreeLetters
-    → without_first 0x55 parental_rating_in shows.is_one_rating (genre_descs genres ++ rating_descs r) ≡ genre_descs genres
+    → without_first 0x55 parental_rating_in is_one_rating (genre_descs genres ++ rating_descs r) ≡ genre_descs genres
 rating-left [] None three = refl
 rating-left (g ∷ genres) None three = refl
 rating-left [] (Some r) three = rating-shown r three
@@ -189,10 +189,10 @@ firsts-left e q levels =
     let ps = pieces e.extended in
     let rest = all_pieces e ++ (genre_descs e.genres ++ rating_descs e.rating) in
     let kept = short_desc e ∷ without_first 0x4D short_event_in always rest in
-    ap (λ o. without_first 0x54 content_in always (without_first 0x55 parental_rating_in shows.is_one_rating (if is_some o then rest else kept)))
+    ap (λ o. without_first 0x54 content_in always (without_first 0x55 parental_rating_in is_one_rating (if is_some o then rest else kept)))
     (short_event-reads_back (short_value e) (record { language = q.language; name = decoded-coded e.name q.name; short = decoded-coded e.short q.short }))
     ∙ ap (without_first 0x54 content_in always)
-    (pieces-stay 0x55 parental_rating_in shows.is_one_rating refl 0 last e.language ps (genre_descs e.genres ++ rating_descs e.rating)
+    (pieces-stay 0x55 parental_rating_in is_one_rating refl 0 last e.language ps (genre_descs e.genres ++ rating_descs e.rating)
     ∙ ap (λ (xs : List RawDesc). all_pieces e ++ xs) (rating-left e.genres e.rating q.rating))
     ∙ pieces-stay 0x54 content_in always refl 0 last e.language ps (genre_descs e.genres)
     ∙ ap (λ (xs : List RawDesc). all_pieces e ++ xs) (genres-left e.genres levels)

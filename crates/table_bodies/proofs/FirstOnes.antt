@@ -1,12 +1,47 @@
--- What a list shows without the first descriptor of a kind.
+-- What a list shows with the first descriptor of a kind, and without it.
 use Rattle.std.proofs.Common.{◌≡◌, ◌∙◌, ℕ, Bool, true, false, List, [], ◌∷◌, ◌++◌, Option, Some, None, refl, sym, ap, if◌then◌else◌}
 use Rattle.std.specs.Prelude.{◌==◌, is_some}
 use Rattle.std.specs.Option.{option_or}
+use Rattle.std.specs.List.{AllByRecursion}
 use Rattle.std.proofs.lemmas.Bool.{eqb-true}
 use Rattle.guide_model.specs.declared.descriptor.RawDesc.{RawDesc}
 use Rattle.descriptors.specs.ExtendedEvent.{extended_event_in}
-use Rattle.table_bodies.specs.First.{said_by, first_in, without_first}
+use Rattle.descriptors.specs.First.{said_by, first_in, without_first}
 use Rattle.table_bodies.specs.ShownEvent.{text_if, pieces_in}
+
+-- ---- a list whose front has the descriptor that is read
+
+-- it is the first one
+pub first_front : {A : Type 0} (tag : ℕ) (read : List ℕ → Option A) (d : RawDesc) (ds : List RawDesc) (a : A) → said_by tag read d ≡ Some a
+    → first_in tag read (d ∷ ds) ≡ Some a
+first_front tag read d ds a says = ap (λ said. option_or said (first_in tag read ds)) says
+
+-- and where its body is shown whole, those after it stay
+pub without_front : {A : Type 0} (tag : ℕ) (read : List ℕ → Option A) (whole : List ℕ → Bool) (d : RawDesc) (ds : List RawDesc) (a : A)
+    → said_by tag read d ≡ Some a → whole d.body ≡ true → without_first tag read whole (d ∷ ds) ≡ ds
+without_front tag read whole d ds a says shown =
+    ap (λ said. if is_some said then (if whole d.body then ds else d ∷ ds) else d ∷ without_first tag read whole ds) says
+    ∙ ap (λ (b : Bool). if b then ds else d ∷ ds) shown
+
+-- ---- a list with no descriptor of the tag
+
+abbrev HasNone : ℕ → List RawDesc → Type 0
+HasNone tag ds = AllByRecursion (λ (d : RawDesc). (d.tag == tag) ≡ false) ds
+
+pub none_first : {A : Type 0} (tag : ℕ) (read : List ℕ → Option A) (ds : List RawDesc) → HasNone tag ds → first_in tag read ds ≡ None
+none_first tag read [] none = refl
+none_first tag read (d ∷ ds) none =
+    ap (λ (b : Bool). option_or (if b then read d.body else None) (first_in tag read ds)) none.0 ∙ none_first tag read ds none.1
+
+pub none_without : {A : Type 0} (tag : ℕ) (read : List ℕ → Option A) (whole : List ℕ → Bool) (ds : List RawDesc) → HasNone tag ds
+    → without_first tag read whole ds ≡ ds
+none_without tag read whole [] none = refl
+none_without tag read whole (d ∷ ds) none =
+    let more = d ∷ without_first tag read whole ds in
+    ap (λ (b : Bool). if is_some (if b then read d.body else None) then (if whole d.body then ds else d ∷ ds) else more) none.0
+    ∙ ap (λ more. d ∷ more) (none_without tag read whole ds none.1)
+
+-- ---- a list without a descriptor of another kind
 
 tag_of : {B : Type 0} (t : Bool) (x : Option B) → is_some (if t then x else None) ≡ true → t ≡ true
 tag_of true x e = refl

@@ -1,7 +1,7 @@
 -- Written programs read back.
-use Rattle.std.proofs.Common.{◌≡◌, ◌∙◌, ℕ, suc, ◌+◌, ◌*◌, ◌/◌, ◌%◌, ◌<◌, List, [], ◌∷◌, length, map, Option, Some, None, IfSome, if◌then◌else◌, refl, sym, ap, arith}
-use Rattle.std.specs.Prelude.{◌==◌, Bool, true, is_some, option_and_then}
-use Rattle.std.specs.Option.{option_map, option_or}
+use Rattle.std.proofs.Common.{◌≡◌, ◌∙◌, ℕ, suc, ◌+◌, ◌*◌, ◌/◌, ◌%◌, ◌<◌, ◌≤◌, List, [], ◌∷◌, ◌++◌, length, map, Option, Some, None, IfSome, refl, sym, ap, arith, length-append}
+use Rattle.std.specs.Prelude.{◌==◌, true, option_and_then}
+use Rattle.std.specs.Option.{option_map}
 use Rattle.std.specs.List.{flat_map}
 use Rattle.si_lists.proofs.Lists.{all_map, three_of}
 use Rattle.si_lists.proofs.Outcomes.{mapped}
@@ -9,13 +9,17 @@ use Rattle.si_base.specs.Fields.{two}
 use Rattle.guide_model.specs.declared.stream.Component.{Component}
 use Rattle.guide_model.specs.declared.screen.ScreenComponent.{ScreenComponent}
 use Rattle.guide_model.specs.declared.descriptor.RawDesc.{RawDesc}
-use Rattle.descriptors.specs.Languages.{languages_body}
+use Rattle.guide_model.specs.Descriptors.{descriptors_size}
+use Rattle.descriptors.specs.Descriptors.{descriptors_bytes}
+use Rattle.descriptors.specs.Languages.{languages_body, languages_in, is_one_language}
+use Rattle.descriptors.proofs.Loops.{length-descriptors_bytes}
 use Rattle.descriptors.proofs.ServiceEntries.{languages-read_back, length-languages_body}
-use Rattle.table_bodies.specs.Entries.{FitsEntry, EntryParts, made, value_in, entries_in}
-use Rattle.table_bodies.proofs.EntryWritten.{one_back, parts_of, split_back, entries_back}
+use Rattle.table_bodies.specs.Entries.{FitsEntry, EntryParts, descriptors_in, made, value_in, entries_in}
+use Rattle.table_bodies.proofs.EntryWritten.{descs_back, parts_of, split_back, entries_back}
+use Rattle.table_bodies.proofs.FirstOnes.{first_front, without_front}
 use Rattle.table_bodies.specs.declared.pat.PatEntry.{PatEntry}
 use Rattle.table_bodies.specs.Pat.{program_of, pat_in, pat_body, is_pat_body, PatReadsBack, WrittenPatsAreRead}
-use Rattle.table_bodies.specs.Pmt.{language_descriptors, component_entry, component_bytes, program_entry, first_language, component_in, program_in, pmt_with, is_one_language, shown_component, FitsComponent, PmtReadsBack}
+use Rattle.table_bodies.specs.Pmt.{language_descriptors, component_entry, component_bytes, program_entry, first_language, component_in, program_in, pmt_with, shown_component, FitsComponent, PmtReadsBack}
 
 pub pat-reads_back : PatReadsBack
 pat-reads_back [] fit = refl
@@ -64,39 +68,66 @@ language_desc l = record { tag = 0x0A; body = languages_body (l ∷ []) }
 one_language : (l : List ℕ) → length l ≡ 3 → is_one_language (languages_body (l ∷ [])) ≡ true
 one_language l three = let t = three_of l three in ap (λ (code : List ℕ). is_one_language (languages_body (code ∷ []))) t.3
 
-abbrev parts_with : ℕ → ℕ → Option (List ℕ) → EntryParts
-parts_with s p l = record { fields = s ∷ two (0xE000 + p); descriptors = language_descriptors l }
+-- the descriptors of a component
+abbrev component_descs : Option (List ℕ) → List RawDesc → List RawDesc
+component_descs None ds = ds
+component_descs (Some l) ds = language_desc l ∷ ds
 
-component_back : (s p : ℕ) (l : Option (List ℕ)) → p < 8192 → IfSome l (λ language. length language ≡ 3)
-    → value_in component_in (parts_with s p l) ≡ Some (record { stream_type = s; pid = p; language = l; descriptors = [] })
-component_back s p None lt three = ap (λ x. Some x) (same_component s _ p None None [] [] (pid_back p lt) refl refl)
-component_back s p (Some l) lt three =
+component_descs_back : (l : Option (List ℕ)) (ds : List RawDesc)
+    → descriptors_in (language_descriptors l ++ descriptors_bytes ds) ≡ Some (component_descs l ds)
+component_descs_back None ds = descs_back ds
+component_descs_back (Some l) ds = descs_back (language_desc l ∷ ds)
+
+-- what is read of a component, by its descriptors
+read_by : (c : Component)
+    → value_in component_in (parts_of (component_entry c)) ≡ component_in (component_entry c).fields (component_descs c.language c.descriptors)
+read_by c = ap (option_and_then (component_in (component_entry c).fields)) (component_descs_back c.language c.descriptors)
+
+component_back : (s p : ℕ) (l : Option (List ℕ)) (ds : List RawDesc) → p < 8192 → IfSome l (λ language. length language ≡ 3)
+    → component_in (s ∷ two (0xE000 + p)) (component_descs l ds)
+    ≡ Some (shown_component (record { stream_type = s; pid = p; language = l; descriptors = ds }))
+component_back s p None ds lt three = ap (λ x. Some x) (same_component s _ p _ _ _ _ (pid_back p lt) refl refl)
+component_back s p (Some l) ds lt three =
     let read = languages-read_back (l ∷ []) (three, tt) in
-    let left : List RawDesc = language_desc l ∷ [] in
-    let whole = is_one_language (languages_body (l ∷ [])) in
-    let none = ap (λ o. if is_some o then (if whole then [] else left) else left) read ∙ ap (λ (b : Bool). if b then [] else left) (one_language l three) in
-    ap (option_and_then (component_in (s ∷ two (0xE000 + p)))) (one_back (language_desc l))
-    ∙ ap (λ x. Some x) (same_component s _ p _ (Some l) _ [] (pid_back p lt) (ap (λ o. first_language (option_or o None)) read) none)
+    let front = language_desc l in
+    ap (λ x. Some x) (same_component s _ p _ (Some l) _ ds (pid_back p lt)
+    (ap first_language (first_front 0x0A languages_in front ds (l ∷ []) read))
+    (without_front 0x0A languages_in is_one_language front ds (l ∷ []) read (one_language l three)))
 
-descriptors_few : (l : Option (List ℕ)) → IfSome l (λ language. length language ≡ 3) → length (language_descriptors l) < 4096
+descriptors_few : (l : Option (List ℕ)) → IfSome l (λ language. length language ≡ 3) → length (language_descriptors l) ≤ 6
 descriptors_few None three = omega arith
 descriptors_few (Some l) three = omega (arith, length-languages_body (l ∷ []) (three, tt))
+
+-- the descriptors of a component fit their length
+pub length-component : (l : Option (List ℕ)) (ds : List RawDesc)
+    → length (language_descriptors l ++ descriptors_bytes ds) ≡ length (language_descriptors l) + descriptors_size ds
+length-component l ds = omega (arith, length-append (language_descriptors l) (descriptors_bytes ds), length-descriptors_bytes ds)
+
+component_fits : (c : Component) → FitsComponent c → FitsEntry 3 (component_entry c)
+component_fits c fits = record {
+  fields = refl;
+  bits = omega arith;
+  descriptors = omega (arith, fits.writable.room, length-component c.language c.descriptors, descriptors_few c.language fits.language);
+}
 
 abbrev IsBack : Component → Type 0
 IsBack c = FitsEntry 3 (component_entry c) × (value_in component_in (parts_of (component_entry c)) ≡ Some (shown_component c))
 
 each_back : (c : Component) → FitsComponent c → IsBack c
 each_back c fits = (
-  record { fields = refl; bits = omega arith; descriptors = descriptors_few c.language fits.language },
-  component_back c.stream_type c.pid c.language fits.pid fits.language,
+  component_fits c fits,
+  read_by c ∙ component_back c.stream_type c.pid c.language c.descriptors fits.writable.pid fits.language,
 )
 
 pub pmt-reads_back : PmtReadsBack
 pmt-reads_back p fits =
     let loop = flat_map component_bytes p.components in
-    let program = program_entry p.pcr_pid in
+    let program = program_entry p.pcr_pid p.descriptors in
     let each = all_map FitsComponent IsBack each_back p.components fits.components in
+    let room : length program.descriptors < 4096 = omega (arith, fits.room, length-descriptors_bytes p.descriptors) in
+    let read : Option (List ScreenComponent) = entries_in 3 component_in loop in
     ap (option_and_then (λ (parts : EntryParts × List ℕ). made pmt_with (value_in program_in parts.0) (entries_in 3 component_in parts.1)))
-    (split_back 2 program loop (record { fields = refl; bits = omega arith; descriptors = omega arith }))
+    (split_back 2 program loop (record { fields = refl; bits = omega arith; descriptors = room }))
+    ∙ ap (λ (descs : Option (List RawDesc)). made pmt_with (option_and_then (program_in program.fields) descs) read) (descs_back p.descriptors)
     ∙ ap (option_map (pmt_with _)) (entries_back 3 component_in component_entry shown_component p.components each)
-    ∙ ap (λ (pid : ℕ). Some (pmt_with (pid, []) (map shown_component p.components))) (pid_back p.pcr_pid fits.pcr_pid)
+    ∙ ap (λ (pid : ℕ). Some (pmt_with (pid, p.descriptors) (map shown_component p.components))) (pid_back p.pcr_pid fits.pcr_pid)

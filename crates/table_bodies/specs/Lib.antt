@@ -1,5 +1,4 @@
 pub mod Entries
-pub mod First
 pub mod Laws
 pub mod EntryRows
 pub mod Pat

@@ -1,41 +1,51 @@
 -- The body of a section of a program map table, both ways (ISO/IEC 13818-1, 2.4.4.8).
-use Rattle.std.specs.Prelude.{◌≡◌, ℕ, ◌+◌, ◌%◌, ◌<◌, ◌==◌, ◌&&◌, List, [], ◌∷◌, ◌++◌, length, map, slice_index, Bool}
+use Rattle.std.specs.Prelude.{◌≡◌, ℕ, ◌+◌, ◌%◌, ◌<◌, ◌≤◌, List, [], ◌∷◌, ◌++◌, length, map, slice_index, Bool, if◌then◌else◌}
 use Rattle.std.specs.Prelude.{Option, Some, None, IfSome, is_some, option_and_then}
-use Rattle.std.specs.List.{flat_map, AllByRecursion}
+use Rattle.std.specs.Option.{option_or}
+use Rattle.std.specs.List.{flat_map, All, AllByRecursion}
 use Rattle.si_base.specs.Fields.{two, two_at}
 use Rattle.guide_model.specs.declared.stream.Component.{Component}
 use Rattle.guide_model.specs.declared.screen.ScreenComponent.{ScreenComponent}
 use Rattle.guide_model.specs.declared.descriptor.RawDesc.{RawDesc}
-use Rattle.descriptors.specs.Languages.{iso_639_language, languages_in}
+use Rattle.guide_model.specs.Descriptors.{descriptors_size}
+use Rattle.descriptors.specs.Descriptors.{descriptors_bytes, FitsDescriptor}
+use Rattle.descriptors.specs.Languages.{iso_639_language, languages_in, is_one_language}
 use Rattle.table_bodies.specs.Entries.{TableEntry, entry_bytes, Reads, made, split_in, value_in, entries_in}
-use Rattle.table_bodies.specs.First.{first_in, without_first}
+use Rattle.descriptors.specs.First.{first_in, without_first}
 use Rattle.table_bodies.specs.declared.pmt.Pmt.{Pmt}
 use Rattle.table_bodies.specs.declared.pmt.HeardPmt.{HeardPmt}
 
 -- ---- written
 
--- the descriptors of a component: its language, where it has one
+-- the language of a component, where it has one
 abbrev pub language_descriptors : Option (List ℕ) → List ℕ
 language_descriptors None = []
 language_descriptors (Some language) = iso_639_language (language ∷ [])
 
--- stream_type 8, reserved 3, elementary_PID 13; reserved 4; all reserved bits are 1
+-- stream_type 8, reserved 3, elementary_PID 13; reserved 4; all reserved bits are 1; its language, and its further descriptors
 abbrev pub component_entry : Component → TableEntry
-component_entry c = record { fields = c.stream_type ∷ two (0xE000 + c.pid); bits = 15; descriptors = language_descriptors c.language }
+component_entry c = record {
+  fields = c.stream_type ∷ two (0xE000 + c.pid);
+  bits = 15;
+  descriptors = language_descriptors c.language ++ descriptors_bytes c.descriptors;
+}
 
 abbrev pub component_bytes : Component → List ℕ
 component_bytes c = entry_bytes (component_entry c)
 
--- the PID fits its 13 bits
-abbrev pub HasPid : Component → Type 0
-HasPid c = c.pid < 8192
+-- The PID fits its 13 bits, each body the length of its descriptor, and the further descriptors with the 6 bytes of a language their
+-- length of 12 bits.
+pub record IsWritable (c : Component) : Type 0 where
+  pub pid : c.pid < 8192
+  pub bodies : All FitsDescriptor c.descriptors
+  pub room : descriptors_size c.descriptors ≤ 4089
 
--- reserved 3, PCR_PID 13, reserved 4, program_info_length 12, which is 0
-abbrev pub program_entry : ℕ → TableEntry
-program_entry pcr_pid = record { fields = two (0xE000 + pcr_pid); bits = 15; descriptors = [] }
+-- reserved 3, PCR_PID 13, reserved 4, program_info_length 12, and the descriptors of the program
+abbrev pub program_entry : ℕ → List RawDesc → TableEntry
+program_entry pcr_pid descs = record { fields = two (0xE000 + pcr_pid); bits = 15; descriptors = descriptors_bytes descs }
 
 abbrev pub pmt_body : Pmt → List ℕ
-pmt_body p = entry_bytes (program_entry p.pcr_pid) ++ flat_map component_bytes p.components
+pmt_body p = entry_bytes (program_entry p.pcr_pid p.descriptors) ++ flat_map component_bytes p.components
 
 -- ---- read
 
@@ -47,10 +57,6 @@ first_language None = None
 
 abbrev pub language_of : List RawDesc → Option (List ℕ)
 language_of descs = first_language (first_in 0x0A languages_in descs)
-
--- one entry, whose audio_type is 0: a language shows it whole
-abbrev pub is_one_language : List ℕ → Bool
-is_one_language body = length body == 4 && slice_index body 3 == 0
 
 -- the further descriptors of a component
 abbrev pub further_of_component : List RawDesc → List RawDesc
@@ -87,19 +93,26 @@ is_pmt_body body = is_some (pmt_in body)
 
 -- each field has its width, and a language three letters
 pub record FitsComponent (c : Component) : Type 0 where
-  pub pid : HasPid c
+  pub writable : IsWritable c
   pub language : IfSome c.language (λ language. length language ≡ 3)
 
 pub record FitsPmt (p : Pmt) : Type 0 where
   pub pcr_pid : p.pcr_pid < 8192
+  pub room : descriptors_size p.descriptors ≤ 4095
   pub components : AllByRecursion FitsComponent p.components
 
--- what a receiver shows of a component, and of a program: there are no further descriptors
+-- What a receiver shows of a component: its language is written first, so it is the one that is read. Without one a further descriptor
+-- may be read as a language.
 abbrev pub shown_component : Component → ScreenComponent
-shown_component c = record { stream_type = c.stream_type; pid = c.pid; language = c.language; descriptors = [] }
+shown_component c = record {
+  stream_type = c.stream_type;
+  pid = c.pid;
+  language = option_or c.language (language_of c.descriptors);
+  descriptors = if is_some c.language then c.descriptors else further_of_component c.descriptors;
+}
 
 abbrev pub shown_pmt : Pmt → HeardPmt
-shown_pmt p = record { pcr_pid = p.pcr_pid; descriptors = []; components = map shown_component p.components }
+shown_pmt p = record { pcr_pid = p.pcr_pid; descriptors = p.descriptors; components = map shown_component p.components }
 
 -- Reading a written body gives what is shown of its value.
 abbrev pub PmtReadsBack : Type 0

@@ -7,10 +7,12 @@ use Rattle.si_base.specs.Fields.{two, two_at}
 use Rattle.guide_model.specs.Decoding.{shown_bytes}
 use Rattle.guide_model.specs.declared.shown.Shown.TheVariants.{Text}
 use Rattle.guide_model.specs.declared.descriptor.RawDesc.{RawDesc}
+use Rattle.guide_model.specs.Descriptors.{descriptors_size}
 use Rattle.descriptors.specs.declared.service.ServiceText.{ServiceText}
+use Rattle.descriptors.specs.Descriptors.{descriptors_bytes, FitsDescriptor}
 use Rattle.descriptors.specs.Service.{service_descriptor, service_in, HasShownNames}
 use Rattle.table_bodies.specs.Entries.{TableEntry, entry_bytes, Reads, entries_in}
-use Rattle.table_bodies.specs.First.{first_in, without_first, always}
+use Rattle.descriptors.specs.First.{first_in, without_first, always}
 use Rattle.table_bodies.specs.declared.sdt.SdtService.{SdtService}
 use Rattle.table_bodies.specs.declared.sdt.Sdt.{Sdt}
 
@@ -24,12 +26,12 @@ abbrev pub text_of : SdtService → ServiceText
 text_of s = record { kind = s.kind; provider = s.provider; name = s.name }
 
 -- service_id 16, reserved 6, all 1, EIT_schedule_flag 1, EIT_present_following_flag 1; running_status 3, which is 4, running,
--- and free_CA_mode 1, which is 0; its service_descriptor; further descriptors are not written
+-- and free_CA_mode 1, which is 0; its service_descriptor, and its further descriptors
 abbrev pub service_entry : SdtService → TableEntry
 service_entry s = record {
   fields = two s.service ++ (0xFC + 2 * flag_bit s.schedule + flag_bit s.present) ∷ [];
   bits = 8;
-  descriptors = service_descriptor (text_of s);
+  descriptors = service_descriptor (text_of s) ++ descriptors_bytes s.descriptors;
 }
 
 abbrev pub service_bytes : SdtService → List ℕ
@@ -39,9 +41,12 @@ service_bytes s = entry_bytes (service_entry s)
 abbrev pub sdt_body : Sdt → List ℕ
 sdt_body sdt = two sdt.original ++ 0xFF ∷ flat_map service_bytes sdt.services
 
--- the texts fit the length of their descriptor
-abbrev pub FitsService : SdtService → Type 0
-FitsService s = length (shown_bytes s.provider) + length (shown_bytes s.name) ≤ 252
+-- the texts and each body fit the length of their descriptor, and the descriptors, of which that of the texts has at most 257 bytes,
+-- their length of 12 bits
+pub record FitsService (s : SdtService) : Type 0 where
+  pub texts : length (shown_bytes s.provider) + length (shown_bytes s.name) ≤ 252
+  pub bodies : All FitsDescriptor s.descriptors
+  pub room : descriptors_size s.descriptors ≤ 3838
 
 -- ---- read
 
@@ -86,11 +91,10 @@ is_sdt_body body = is_some (sdt_in body)
 
 -- ---- laws
 
--- fields that fit, texts that are shown as their bytes are, and no further descriptor
+-- fields that fit, and texts that are shown as their bytes are
 pub record HasServiceWidths (s : SdtService) : Type 0 where
   pub service : s.service < 65536
   pub fits : FitsService s
-  pub no_further : s.descriptors ≡ []
   pub shown : HasShownNames (text_of s)
 
 pub record FitsSdt (sdt : Sdt) : Type 0 where
@@ -105,9 +109,11 @@ SdtReadsBack = (sdt : Sdt) → FitsSdt sdt → sdt_in (sdt_body sdt) ≡ Some sd
 abbrev pub WrittenSdtsAreRead : Type 0
 WrittenSdtsAreRead = (sdt : Sdt) → All FitsService sdt.services → is_sdt_body (sdt_body sdt) ≡ true
 
--- An entry has the bytes of its texts, and 10 more; a body has its entries, and 3 more.
+-- An entry has the bytes of its texts, of its further descriptors, and 10 more; a body has its entries, and 3 more.
 abbrev pub ServiceHasItsSize : Type 0
-ServiceHasItsSize = (s : SdtService) → length (service_bytes s) ≡ 10 + length (shown_bytes s.provider) + length (shown_bytes s.name)
+ServiceHasItsSize =
+    (s : SdtService)
+    → length (service_bytes s) ≡ 10 + length (shown_bytes s.provider) + length (shown_bytes s.name) + descriptors_size s.descriptors
 
 abbrev pub SdtHasItsSize : Type 0
 SdtHasItsSize = (sdt : Sdt) → length (sdt_body sdt) ≡ 3 + sum_by (λ s. length (service_bytes s)) sdt.services

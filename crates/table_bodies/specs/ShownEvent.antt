@@ -1,5 +1,5 @@
 -- What the descriptors of an event show.
-use Rattle.std.specs.Prelude.{ℕ, ◌==◌, ◌&&◌, Bool, false, not, List, [], ◌∷◌, ◌++◌, length, filter, slice_index, Option, Some, None, if◌then◌else◌, codes, bytes_eq}
+use Rattle.std.specs.Prelude.{ℕ, ◌==◌, ◌&&◌, Bool, false, not, List, [], ◌∷◌, ◌++◌, filter, slice_index, Option, Some, None, if◌then◌else◌, codes, bytes_eq}
 use Rattle.std.specs.List.{concat}
 use Rattle.guide_model.specs.Decoding.{decoded}
 use Rattle.guide_model.specs.declared.shown.Shown.{Shown}
@@ -8,13 +8,13 @@ use Rattle.guide_model.specs.declared.event.Genre.{Genre}
 use Rattle.guide_model.specs.declared.event.Rating.{Rating}
 use Rattle.guide_model.specs.declared.screen.ScreenEvent.{ScreenEvent}
 use Rattle.guide_model.specs.declared.descriptor.RawDesc.{RawDesc}
-use Rattle.table_bodies.specs.First.{first_in, without_first, always}
+use Rattle.descriptors.specs.First.{first_in, without_first, always}
 use Rattle.descriptors.specs.declared.short_event.ShortEvent.{ShortEvent}
 use Rattle.descriptors.specs.declared.extended_event.ExtendedPiece.{ExtendedPiece}
 use Rattle.descriptors.specs.ShortEvent.{short_event_in}
 use Rattle.descriptors.specs.ExtendedEvent.{extended_event_in}
 use Rattle.descriptors.specs.Content.{content_in}
-use Rattle.descriptors.specs.ParentalRating.{parental_rating_in}
+use Rattle.descriptors.specs.ParentalRating.{parental_rating_in, is_one_rating}
 
 -- ---- fields of the first descriptors
 
@@ -74,10 +74,6 @@ abbrev pub joined : List (List ℕ) → Shown
 joined pieces = joined_as (texts_of pieces) pieces
 
 -- ---- the further descriptors
-
--- one entry: a rating shows it whole
-abbrev pub is_one_rating : List ℕ → Bool
-is_one_rating body = length body == 4
 
 -- a piece in this language, which has no items: length_of_items, at byte 4, is 0
 abbrev pub is_in_language : List ℕ → Option ExtendedPiece → Bool

@@ -23,12 +23,10 @@
 //! Not promised: how much memory a body of events takes.
 #![tactic(auto)]
 
-mod descriptor_kinds;
 mod eit;
 mod entry;
 mod entry_laws;
 mod event_laws;
-mod first;
 mod network_laws;
 mod nit;
 mod pat;

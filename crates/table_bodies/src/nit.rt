@@ -4,17 +4,17 @@ ghost use Rattle.std.specs.List.{All, flat_map};
 ghost use Rattle.std.proofs.Common.{lit<};
 ghost use Rattle.guide_model.specs.Decoding.{shown_bytes};
 ghost use Rattle.descriptors.specs.CableDelivery.{FitsCable};
-ghost use Rattle.descriptors.specs.NetworkName.{network_name};
+ghost use Rattle.descriptors.specs.Descriptors.{FitsDescriptor};
 ghost use Rattle.table_bodies.specs.Entries.{entry_bytes};
 ghost use Rattle.descriptors.specs.ServiceList.{service_list_in};
-ghost use Rattle.table_bodies.specs.First.{always, without_first};
-ghost use Rattle.table_bodies.specs.Nit.{FitsStream, bare_entry, cable_descriptors, cable_size, further_of_network, loop_in, name_of, nit_body, nit_in, services_of, stream_bytes, stream_in, stream_size, stream_with};
+ghost use Rattle.descriptors.specs.First.{always, without_first};
+ghost use Rattle.table_bodies.specs.Nit.{FitsStream, HasNetworkRoom, cable_descriptors, cable_size, further_of_network, loop_in, name_of, network_entry, nit_body, nit_in, services_of, stream_bytes, stream_in, stream_size, stream_with};
 
-use crate::descriptor_kinds::{CableDelivery, NetworkName, ServiceList};
-use crate::first::take_first;
 use crate::{EntryKind, RawEntry, are_entries, read_entries, split_entry};
+use descriptors::descriptor_kinds::{CableDelivery, NetworkName, ServiceList};
 use descriptors::{
-    ServiceKinds, no_text, write_cable_delivery_system, write_network_name, write_service_list,
+    ServiceKinds, descriptors_len, no_text, take_first, write_cable_delivery_system,
+    write_descriptors, write_network_name, write_service_list,
 };
 use guide_model::{Cable, RawDesc, RawDescs, Shown};
 use si_base::{Bytes, Items};
@@ -43,12 +43,15 @@ pub struct Nit {
 }
 
 /// The body of a section of the network information table (EN 300 468, 5.2.1): a network_name_descriptor, and for each stream its
-/// cable_delivery_system_descriptor where it has one and its service_list_descriptor. Further descriptors are not written.
+/// cable_delivery_system_descriptor where it has one and its service_list_descriptor. Further descriptors of the network follow its
+/// name, and those of a stream its list, in their order.
 ///
-/// It needs a name of at most 255 bytes, cables whose digits fit, at most 85 services a stream, and streams of less than 4,096 bytes
-/// together, so that each length fits its field.
+/// It needs a name of at most 255 bytes, cables whose digits fit, at most 85 services a stream, bodies of at most 255 bytes, and
+/// descriptors of the network and streams of less than 4,096 bytes together, so that each length fits its field.
 pub fn write_nit(alloc: Global, nit: &Nit) -> Result<Bytes, AllocError>
     requires name { length (shown_bytes nit.now.name) ≤ 255 }
+    requires bodies { All FitsDescriptor nit.now.descriptors }
+    requires room { HasNetworkRoom nit.now }
     requires streams { All FitsStream nit.now.streams }
     requires within { sum_by stream_size nit.now.streams < 4096 }
     ensures { IfOk result (λ body. body ≡ nit_body nit.now) }
@@ -56,20 +59,24 @@ pub fn write_nit(alloc: Global, nit: &Nit) -> Result<Bytes, AllocError>
     let mut streams = Vec::new(alloc);
     put_streams(nit.streams.as_slice(), &mut streams)?;
     let mut out = Vec::new(alloc);
-    put_name(&nit.name, &mut out)?;
+    put_network(nit, &mut out)?;
     out.extend_from_slice(&(0xF000 + streams.len() as u16).to_be_bytes())?;
     out.extend_from_slice(&streams)?;
     Ok(Items::of(out))
 }
 
-// Appends the name behind its length; want of memory may leave a part of it.
-fn put_name(name: &Shown, out: &mut Vec<u8>) -> Result<(), AllocError>
-    requires { length (shown_bytes name.now) ≤ 255 }
-    ensures { OnOk result (out.new.items ≡ out.old.items ++ entry_bytes (bare_entry (network_name name.now))) }
+// Appends the name and the further descriptors of the network behind their length; want of memory may leave a part of them.
+fn put_network(nit: &Nit, out: &mut Vec<u8>) -> Result<(), AllocError>
+    requires name { length (shown_bytes nit.now.name) ≤ 255 }
+    requires bodies { All FitsDescriptor nit.now.descriptors }
+    requires room { HasNetworkRoom nit.now }
+    ensures { OnOk result (out.new.items ≡ out.old.items ++ entry_bytes (network_entry nit.now)) }
 {
-    let len = 2 + name.coded_len() as u16;
+    let descs = nit.descriptors.as_slice();
+    let len = 2 + nit.name.coded_len() as u16 + descriptors_len(descs) as u16;
     out.extend_from_slice(&(0xF000 + len).to_be_bytes())?;
-    write_network_name(name, out)
+    write_network_name(&nit.name, out)?;
+    write_descriptors(descs, out)
 }
 
 // Appends the entries of streams; want of memory may leave a part of them.
@@ -88,17 +95,21 @@ fn put_stream(stream: &NitStream, out: &mut Vec<u8>) -> Result<(), AllocError>
     requires { FitsStream stream.now }
     ensures { OnOk result (out.new.items ≡ out.old.items ++ stream_bytes stream.now) }
 {
+    let descs = stream.descriptors.as_slice();
     let list = 2 + 3 * stream.services.len() as u16;
+    let len = cable_len(&stream.cable) + list + descriptors_len(descs) as u16;
     out.extend_from_slice(&stream.stream.to_be_bytes())?;
     out.extend_from_slice(&stream.original.to_be_bytes())?;
-    out.extend_from_slice(&(0xF000 + cable_len(&stream.cable) + list).to_be_bytes())?;
+    out.extend_from_slice(&(0xF000 + len).to_be_bytes())?;
     put_cable(&stream.cable, out)?;
-    write_service_list(stream.services.as_slice(), out)
+    write_service_list(stream.services.as_slice(), out)?;
+    write_descriptors(descs, out)
 }
 
 // The bytes of the descriptor of a cable.
 fn cable_len(cable: &Option<Cable>) -> u16
-    ensures { result ≡ cable_size cable.now }
+    ensures value { result ≡ cable_size cable.now }
+    ensures few { result ≤ 13 }
 {
     match cable {
         None => 0,

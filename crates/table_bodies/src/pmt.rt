@@ -1,21 +1,25 @@
 // The program map table.
-ghost use Rattle.std.specs.Prelude.{◌≡◌, ◌<◌, ◌++◌, List, ℕ, Option, length, is_some, IfOk, OnOk};
+ghost use Rattle.std.specs.Prelude.{◌≡◌, ◌<◌, ◌≤◌, ◌++◌, List, ℕ, Option, length, is_some, IfOk, OnOk};
 ghost use Rattle.std.specs.List.{All, flat_map};
 ghost use Rattle.std.proofs.Common.{lit<};
-ghost use Rattle.table_bodies.specs.Pmt.{HasPid, component_bytes, component_in, further_of_component, language_descriptors, language_of, pmt_body, pmt_in};
+ghost use Rattle.guide_model.specs.Descriptors.{descriptors_size};
+ghost use Rattle.descriptors.specs.Descriptors.{FitsDescriptor};
+ghost use Rattle.table_bodies.specs.Pmt.{IsWritable, component_bytes, component_in, further_of_component, language_descriptors, language_of, pmt_body, pmt_in, program_entry};
+ghost use Rattle.table_bodies.specs.Entries.{entry_bytes};
 
-use crate::descriptor_kinds::Language;
-use crate::first::take_first;
 use crate::{EntryKind, RawEntry, are_entries, read_entries, split_entry};
-use descriptors::write_iso_639_language;
+use descriptors::descriptor_kinds::Language;
+use descriptors::{descriptors_len, take_first, write_descriptors, write_iso_639_language};
 use guide_model::{Component, Components, RawDesc, RawDescs, ScreenComponent, ScreenComponents};
 use si_base::{Bytes, Items};
 use std::alloc::{AllocError, Global};
 
-/// What a program map table holds: the PID of the program's clock reference (13 bits) and its components.
+/// What a program map table holds: the PID of the program's clock reference (13 bits), the descriptors of the program and its
+/// components.
 #[derive(Drop)]
 pub struct Pmt {
     pub pcr_pid: u16,
+    pub descriptors: RawDescs,
     pub components: Components,
 }
 
@@ -28,23 +32,41 @@ pub struct HeardPmt {
     pub components: ScreenComponents,
 }
 
-/// The body of a section of the program map table, without descriptors of the program (ISO/IEC 13818-1, 2.4.4.8). A component has an
-/// ISO_639_language_descriptor where it has a language. It needs PIDs below 8,192.
+/// The body of a section of the program map table (ISO/IEC 13818-1, 2.4.4.8). A component has an ISO_639_language_descriptor where it
+/// has a language. Further descriptors follow it, in their order.
+///
+/// It needs PIDs below 8,192, bodies of at most 255 bytes, descriptors of the program of at most 4,095 bytes together and further ones
+/// of a component of at most 4,089, so that each length fits its field.
 pub fn write_pmt(alloc: Global, pmt: &Pmt) -> Result<Bytes, AllocError>
     requires pcr_pid { pmt.now.pcr_pid < 8192 }
-    requires components { All HasPid pmt.now.components }
+    requires bodies { All FitsDescriptor pmt.now.descriptors }
+    requires room { descriptors_size pmt.now.descriptors ≤ 4095 }
+    requires components { All IsWritable pmt.now.components }
     ensures { IfOk result (λ body. body ≡ pmt_body pmt.now) }
 {
     let mut out = Vec::new(alloc);
-    out.extend_from_slice(&(0xE000 + pmt.pcr_pid).to_be_bytes())?;
-    out.extend_from_slice(&[0xF0, 0x00])?;
+    put_program(pmt, &mut out)?;
     put_components(pmt.components.as_slice(), &mut out)?;
     Ok(Items::of(out))
 }
 
+// Appends the entry of the program; want of memory may leave a part of it.
+fn put_program(pmt: &Pmt, out: &mut Vec<u8>) -> Result<(), AllocError>
+    requires pcr_pid { pmt.now.pcr_pid < 8192 }
+    requires bodies { All FitsDescriptor pmt.now.descriptors }
+    requires room { descriptors_size pmt.now.descriptors ≤ 4095 }
+    ensures { OnOk result (out.new.items ≡ out.old.items ++ entry_bytes (program_entry pmt.now.pcr_pid pmt.now.descriptors)) }
+{
+    let descs = pmt.descriptors.as_slice();
+    let len = descriptors_len(descs) as u16;
+    out.extend_from_slice(&(0xE000 + pmt.pcr_pid).to_be_bytes())?;
+    out.extend_from_slice(&(0xF000 + len).to_be_bytes())?;
+    write_descriptors(descs, out)
+}
+
 // Appends the entries of components; want of memory may leave a part of them.
 fn put_components(components: &[Component], out: &mut Vec<u8>) -> Result<(), AllocError>
-    requires { All HasPid components.now }
+    requires { All IsWritable components.now }
     ensures { OnOk result (out.new.items ≡ out.old.items ++ flat_map component_bytes components.now) }
 {
     for component in components {
@@ -55,17 +77,36 @@ fn put_components(components: &[Component], out: &mut Vec<u8>) -> Result<(), All
 
 // Appends the entry of a component; want of memory may leave a part of it.
 fn put_component(component: &Component, out: &mut Vec<u8>) -> Result<(), AllocError>
-    requires { HasPid component.now }
+    requires { IsWritable component.now }
     ensures { OnOk result (out.new.items ≡ out.old.items ++ component_bytes component.now) }
 {
+    let descs = component.descriptors.as_slice();
+    let len = language_len(component.language) + descriptors_len(descs) as u16;
     out.push(component.stream_type)?;
     out.extend_from_slice(&(0xE000 + component.pid).to_be_bytes())?;
-    match component.language {
-        None => out.extend_from_slice(&[0xF0, 0x00]),
-        Some(language) => {
-            out.extend_from_slice(&[0xF0, 0x06])?;
-            write_iso_639_language(&[language], out)
-        }
+    out.extend_from_slice(&(0xF000 + len).to_be_bytes())?;
+    put_language(component.language, out)?;
+    write_descriptors(descs, out)
+}
+
+// The bytes of the descriptor of a language.
+fn language_len(language: Option<[u8; 3]>) -> u16
+    ensures value { result ≡ length (language_descriptors language) }
+    ensures few { result ≤ 6 }
+{
+    match language {
+        None => 0,
+        Some(letters) => 3 + letters.len() as u16,
+    }
+}
+
+// Appends the descriptor of a language, where there is one; want of memory changes nothing.
+fn put_language(language: Option<[u8; 3]>, out: &mut Vec<u8>) -> Result<(), AllocError>
+    ensures { OnOk result (out.new.items ≡ out.old.items ++ language_descriptors language) }
+{
+    match language {
+        None => Ok(()),
+        Some(letters) => write_iso_639_language(&[letters], out),
     }
 }
 

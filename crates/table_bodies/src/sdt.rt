@@ -4,10 +4,11 @@ ghost use Rattle.std.specs.List.{All, flat_map};
 ghost use Rattle.std.proofs.Common.{lit<};
 ghost use Rattle.table_bodies.specs.Sdt.{FitsService, flag_bit, further_of_service, sdt_body, sdt_in, service_bytes, sdt_service_in, text_in};
 
-use crate::descriptor_kinds::Service;
-use crate::first::take_first;
 use crate::{EntryKind, RawEntry, are_entries, read_entries};
-use descriptors::{ServiceText, no_text, write_service_fields};
+use descriptors::descriptor_kinds::Service;
+use descriptors::{
+    ServiceText, descriptors_len, no_text, take_first, write_descriptors, write_service_fields,
+};
 use guide_model::{RawDesc, RawDescs, Shown};
 use si_base::{Bytes, Items};
 use std::alloc::{AllocError, Global};
@@ -36,9 +37,10 @@ pub struct Sdt {
 }
 
 /// The body of a section of the service description table (EN 300 468, 5.2.3). Each service is running (running_status 4), is not
-/// scrambled (free_CA_mode 0), and has one service_descriptor. Further descriptors are not written.
+/// scrambled (free_CA_mode 0), and has a service_descriptor. Its further descriptors follow that, in their order.
 ///
-/// It needs services whose texts have at most 252 bytes together, so that the length of the descriptor fits its field.
+/// It needs services whose texts have at most 252 bytes together, bodies of at most 255 bytes, and further descriptors of a service of
+/// at most 3,838 bytes together, so that each length fits its field.
 pub fn write_sdt(alloc: Global, sdt: &Sdt) -> Result<Bytes, AllocError>
     requires { All FitsService sdt.now.services }
     ensures { IfOk result (λ body. body ≡ sdt_body sdt.now) }
@@ -50,12 +52,15 @@ pub fn write_sdt(alloc: Global, sdt: &Sdt) -> Result<Bytes, AllocError>
     Ok(Items::of(out))
 }
 
-/// How many bytes a service adds to the body of a section: 10 and those of its texts, which are at most 252. It takes no memory.
+/// How many bytes a service adds to the body of a section: 10, those of its texts and those of its further descriptors. It has the
+/// needs of [`write_sdt`], and takes no memory.
 pub fn service_len(service: &SdtService) -> usize
     requires { FitsService service.now }
     ensures { result ≡ length (service_bytes service.now) }
 {
-    10 + service.provider.coded_len() + service.name.coded_len()
+    10 + service.provider.coded_len()
+        + service.name.coded_len()
+        + descriptors_len(service.descriptors.as_slice())
 }
 
 // Appends the entries of services; want of memory may leave a part of them.
@@ -79,7 +84,8 @@ fn put_service(service: &SdtService, out: &mut Vec<u8>) -> Result<(), AllocError
     out.extend_from_slice(&service.service.to_be_bytes())?;
     out.push(flags)?;
     out.extend_from_slice(&(0x8000 + len).to_be_bytes())?;
-    write_service_fields(service.kind, &service.provider, &service.name, out)
+    write_service_fields(service.kind, &service.provider, &service.name, out)?;
+    write_descriptors(service.descriptors.as_slice(), out)
 }
 
 // The bit of a flag.

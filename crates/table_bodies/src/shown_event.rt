@@ -4,15 +4,16 @@ ghost use Rattle.guide_model.specs.declared.shown.Shown.TheVariants.{Text, Hex};
 ghost use Rattle.std.specs.List.{concat};
 ghost use Rattle.descriptors.specs.ShortEvent.{short_event_in};
 ghost use Rattle.descriptors.specs.Content.{content_in};
-ghost use Rattle.descriptors.specs.ParentalRating.{parental_rating_in};
+ghost use Rattle.descriptors.specs.ParentalRating.{is_one_rating, parental_rating_in};
 ghost use Rattle.descriptors.specs.ExtendedEvent.{extended_event_in};
-ghost use Rattle.table_bodies.specs.First.{always, without_first};
-ghost use Rattle.table_bodies.specs.ShownEvent.{short_of, genres_of, rating_of, pieces_in, joined, is_one_rating};
+ghost use Rattle.descriptors.specs.First.{always, without_first};
+ghost use Rattle.table_bodies.specs.ShownEvent.{short_of, genres_of, rating_of, pieces_in, joined};
 ghost use Rattle.table_bodies.specs.ShownEvent.{is_in_language, is_plain_piece, without_pieces};
 
-use crate::descriptor_kinds::{Content, ParentalRating, ShortText};
-use crate::first::take_first;
-use descriptors::{ShortEvent, behind_length, no_text, read_extended_event, split_length};
+use descriptors::descriptor_kinds::{Content, ParentalRating, ShortText};
+use descriptors::{
+    ShortEvent, behind_length, no_text, read_extended_event, split_length, take_first,
+};
 use guide_model::{Genres, Rating, RawDesc, Shown, Txt, decode_text};
 use si_base::{Bytes, Items};
 use std::alloc::{AllocError, Global};

@@ -1,14 +1,13 @@
 use Rattle.std.proofs.Common.{sym, ◌∙◌, subst, arith, refl}
 use Rattle.std.specs.Prelude.{Ok, Err}
-use Rattle.desk_core.specs.Desks.{DeskState, fresh}
+use Rattle.desk_core.specs.Desks.{fresh}
 use Rattle.epg_report.specs.declared.status.Status.{Status}
 use Rattle.epg_play.specs.Items.{Went}
 use Rattle.epg_play.proofs.CourseFacts.{went_none}
 use Rattle.epg_play.proofs.RestFacts.{stays_on}
 use Rattle.epg_audit.specs.Audits.{DeskAudited, desk_airings}
-use Rattle.epg_audit.specs.Checks.{Follows}
 use Rattle.epg_audit.proofs.Following.{follows_none}
-use Rattle.epg_audit.proofs.Going.{added, audits_other, audits_swap, checked, cycle_did, end_counts, end_did, own_entries, own_stops, own_went, script_did}
+use Rattle.epg_audit.proofs.Going.{added, audits_end, audits_other, audits_swap, checked, cycle_did, end_counts, own_entries, own_stops, own_went, script_did}
 use Rattle.epg_audit.proofs.cycles.audit_rest.Goals as goal
 
 pub items-init : goal.items-init
@@ -96,23 +95,10 @@ returns-in-Ok-End-clause-did g c = λ nulls none.
     let i = c.items.invariant in
     let a = i.audits in
     let e = rw c.in-Ok-End.field-0-is at c.in-Ok-End.ensures in
-    let mux = c.args.desk.now.desk.mux in
-    let next = c.do_item.new.desk in
-    let new = c.do_item.new.lines in
-    let left = e.left c.args.lines.now (fresh mux) a.state a.at a.went in
-    let f = subst (λ (d : DeskState). Follows d.mux.rate nulls g.F.Source.left c.args.packets.now
-    c.items.packets (desk_airings d) c.items.checker c.items.passed) (sym left.did)
-    (a.follows nulls none) in
-    let ends = c.check_end.ensures.ends left.now.mux.rate nulls c.args.packets.now
-    (desk_airings left.now) c.items.checker f in
-    record {
-      state = left.now;
-      made = own_entries mux left.now next left.at (e.stays.keeps ∙ i.stays.keeps ∙ c.requires.ready.begun.keeps) (e.stays.shift ∙ a.shift);
-      did = end_did nulls g.S.Source.left g.F.Source.left c.args.lines.now new c.args.packets.now ends.last c.check_end.new.packets (fresh mux) left.now c.items.checker c.check_end.new.passed c.check_end.result
-          ends.follows i.between.at_end
-          (own_stops g.S.Source.left g.F.Source.left c.args.lines.now c.items.lines new c.args.packets.now c.items.packets c.args.desk.now c.items.desk next c.items.checker c.args.passed.now c.items.passed a e.stays.shift
-          left.now (Ok tt) left.goes_on) ends.gives;
-    }
+    audits_end g.S.Source.left g.F.Source.left c.args.lines.now c.items.lines c.do_item.new.lines c.args.packets.now c.items.packets c.args.desk.now c.items.desk c.do_item.new.desk c.items.checker c.args.passed.now c.items.passed a e.stays.shift
+    nulls none (e.left c.args.lines.now (fresh c.args.desk.now.desk.mux) a.state a.at a.went)
+    (e.stays.keeps ∙ i.stays.keeps ∙ c.requires.ready.begun.keeps) i.between.at_end
+    c.check_end.new.packets c.check_end.new.passed c.check_end.result c.check_end.ensures.ends
 
 pub returns-in-Ok-End-clause-counted : goal.returns-in-Ok-End-clause-counted
 returns-in-Ok-End-clause-counted g c = λ nulls bytes none told.

@@ -1,6 +1,6 @@
 use Rattle.std.proofs.Common.{◌∙◌, List, [], refl, sym, subst}
 use Rattle.input_lines.proofs.LineReads.{ReadsOn, on_none}
-use Rattle.mux_config.specs.declared.record.Numbered.{Numbered}
+use Rattle.mux_lines.specs.declared.record.Numbered.{Numbered}
 use Rattle.mux_config.specs.Descriptions.{ended}
 use Rattle.mux_config.specs.Reads.{Makes}
 use Rattle.mux_config.proofs.Reading.{end_read, ended_read, from, line_fails, read_sound, stop_read, taken_more}

@@ -1,7 +1,7 @@
 use Rattle.std.proofs.Common.{◌∙◌, ◌++◌, [], List, sym, ap}
 use Rattle.std.specs.List.{cons_option}
 use Rattle.guide_model.specs.declared.offset.Offset.{Offset}
-use Rattle.mux_config.specs.declared.record.Numbered.{Numbered}
+use Rattle.mux_lines.specs.declared.record.Numbered.{Numbered}
 use Rattle.mux_config.specs.Descriptions.{local_in}
 use Rattle.mux_config.proofs.Ordering.{all_step}
 use Rattle.mux_config.proofs.whole.offsets_of.Goals as goal

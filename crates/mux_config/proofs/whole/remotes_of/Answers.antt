@@ -1,5 +1,5 @@
 use Rattle.std.proofs.Common.{◌∙◌, sym, ap}
-use Rattle.mux_config.specs.declared.record.Numbered.{Numbered}
+use Rattle.mux_lines.specs.declared.record.Numbered.{Numbered}
 use Rattle.mux_config.specs.Descriptions.{remote_of}
 use Rattle.mux_config.specs.Kinds.{put_remote}
 use Rattle.mux_config.proofs.Ordering.{remotes_next}

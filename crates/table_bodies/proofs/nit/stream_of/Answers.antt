@@ -2,7 +2,7 @@ use Rattle.std.proofs.Common.{◌≡◌, ◌∙◌, [], refl, ap}
 use Rattle.std.specs.Option.{unwrap_or}
 use Rattle.descriptors.specs.CableDelivery.{cable_in}
 use Rattle.descriptors.specs.ServiceList.{service_list_in}
-use Rattle.table_bodies.specs.First.{without_first, always}
+use Rattle.descriptors.specs.First.{without_first, always}
 use Rattle.table_bodies.specs.Nit.{cable_of, services_of, further_of_stream}
 use Rattle.table_bodies.proofs.FirstOnes.{first_elsewhere}
 use Rattle.table_bodies.proofs.nit.stream_of.Goals as goal

@@ -1,0 +1,7 @@
+pub mod Found
+pub mod Groups
+pub mod Further
+pub mod Fields
+pub mod Fine
+pub mod Laws
+mod Rows
