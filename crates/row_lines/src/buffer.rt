@@ -25,7 +25,7 @@ impl Buffer {
         &self.bytes
     }
 
-    /// The bytes alone.
+    /// The bytes.
     pub fn into_bytes(self) -> Vec<u8> {
         self.bytes
     }

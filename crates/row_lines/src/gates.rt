@@ -22,7 +22,7 @@ fn bit_of(place: Place) -> u64 {
     1 << (kind + at % 16)
 }
 
-// A number behind a letter.
+// A number after a letter.
 fn number(text: &str) -> Option<u64> {
     text.parse::<u64>().ok()
 }

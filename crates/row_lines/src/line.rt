@@ -90,8 +90,8 @@ impl<'a> Row<'a> {
     /// The next word, or an empty one at the end.
     pub fn word(&mut self) -> &'a str {
         let rest = self.rest.trim_start();
-        let (word, behind) = rest.split_once(' ').unwrap_or((rest, ""));
-        self.rest = behind;
+        let (word, after) = rest.split_once(' ').unwrap_or((rest, ""));
+        self.rest = after;
         word
     }
 
@@ -149,7 +149,7 @@ impl<'a> Row<'a> {
         self.known(text.parse::<u8>().ok(), 0)
     }
 
-    /// A decimal number below 256 behind its name.
+    /// A decimal number below 256 after its name.
     pub fn small(&mut self, name: &str) -> u8 {
         self.pass(name);
         self.octet()
@@ -173,7 +173,7 @@ impl<'a> Row<'a> {
         }
     }
 
-    /// Four hex digits behind their name.
+    /// Four hex digits after their name.
     pub fn hex_of(&mut self, name: &str) -> u16 {
         self.pass(name);
         self.hex()
@@ -232,12 +232,12 @@ impl<'a> Row<'a> {
         self.answer.say(text);
     }
 
-    /// Appends a number behind a text.
+    /// Appends a number after a text.
     pub fn put_number(&mut self, text: &str, number: u64) {
         say!(self; "{text}{number}");
     }
 
-    /// Appends bytes, each behind a blank; one that stands five times or more in a row stands once, with a star and how often.
+    /// Appends bytes, each after a blank; one that stands five times or more in a row stands once, with a star and how often.
     pub fn put_bytes(&mut self, bytes: &[u8]) {
         self.answer.put_runs(bytes);
     }
@@ -276,7 +276,7 @@ fn byte_in(word: &str) -> Option<u8> {
     }
 }
 
-/// What stands before a star and the number behind it, or all and 1.
+/// What stands before a star and the number after it, or all and 1.
 pub fn repeated(word: &str) -> Option<(&str, u32)> {
     let Some((unit, count)) = word.rsplit_once('*') else {
         return Some((word, 1));

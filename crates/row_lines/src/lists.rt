@@ -19,7 +19,7 @@ pub fn each_word<T: Drop, F: Fn(&mut Row, &str) -> T>(row: &mut Row, value_of: F
     values
 }
 
-/// A value of each part, from behind the next slash on; `read` reads a part with its end. Where it
+/// A value of each part, from after the next slash on; `read` reads a part with its end. Where it
 /// gives none there is none.
 pub fn each_part<T: Drop, F: Fn(&mut Row) -> Option<T>>(row: &mut Row, read: F) -> Vec<T>
     requires { F.IsAlwaysCallable read }

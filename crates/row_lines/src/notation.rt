@@ -24,7 +24,7 @@ pub fn moment_text(at: Moment) -> [u8; 20] {
     }
 }
 
-// Appends the body of a count, with a number in place of each `#`, and the moment so many steps behind the day's begin in place
+// Appends the body of a count, with a number in place of each `#`, and the moment so many steps after the day's begin in place
 // of each `@`.
 fn put_body(out: &mut Buffer, body: &str, n: u32, step: u32) {
     for byte in body.as_bytes() {

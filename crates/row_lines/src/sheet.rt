@@ -6,10 +6,10 @@ use std::fmt::Write;
 use std::io;
 
 /// The rows of a program, `CALL ARGUMENTS = ANSWER`. A line `let NAME = TEXT` gives a name, for which
-/// `$NAME` stands in rows. A line `## TITLE` begins a block, and a line `# Origin: ` below it says where
-/// its answers come from. A line `# Calls: ` names calls, each of which is the first word of a row.
-/// What fails is a row that gives another answer or cannot be read, a line without ` = `, a block
-/// without a row or an origin, and a call that no row has.
+/// `$NAME` stands in rows below. A line `## TITLE` begins a block, and a line `# Origin: TEXT` below it
+/// says where its answers come from. A line `# Calls: ` names calls, each of which is the first word of
+/// a row. What fails is a row that gives another answer or cannot be read, a line without ` = `, a name
+/// given twice, a block without a title, a row or an origin, and a call that no row has.
 #[derive(Drop)]
 pub struct Sheet {
     alloc: Global,
@@ -83,17 +83,25 @@ impl Sheet {
     }
 
     fn take_comment(&mut self, line: &str) {
-        if line.starts_with("## ") {
-            self.end_block();
-            self.lacks_rows = true;
-            self.lacks_origin = true;
+        if let Some(title) = line.strip_prefix("##") {
+            self.begin_block(title);
         }
-        if line.starts_with("# Origin: ") {
-            self.lacks_origin = false;
+        if let Some(origin) = line.strip_prefix("# Origin: ") {
+            self.lacks_origin = origin.is_empty();
         }
         if let Some(calls) = line.strip_prefix("# Calls: ") {
             let done = self.name_calls(calls);
             self.told.note(done);
+        }
+    }
+
+    // Begins a block whose title is what stands after `##`.
+    fn begin_block(&mut self, title: &str) {
+        self.end_block();
+        self.lacks_rows = true;
+        self.lacks_origin = true;
+        if title.len() < 2 || !title.starts_with(' ') {
+            self.fail("no title");
         }
     }
 
@@ -110,11 +118,16 @@ impl Sheet {
         }
     }
 
+    // Whether this is a name, and none that stands for something.
+    fn is_new(&self, name: &str) -> bool {
+        name_len(name) == name.len() && meaning(&self.names, name).is_none()
+    }
+
     // `NAME = TEXT`, where the text may have names above it.
     fn take_name(&mut self, text: &str) -> bool {
         self.row.clear();
         let done = match text.split_once(" = ") {
-            Some((name, text)) if name_len(name) == name.len() => self.keep(name, text),
+            Some((name, text)) if self.is_new(name) => self.keep(name, text),
             _ => Err(AllocError),
         };
         if done.is_err() {
@@ -193,7 +206,7 @@ impl Sheet {
     }
 }
 
-// What stands before ` = ` and behind it.
+// What stands before ` = ` and after it.
 fn parts_of(line: &str) -> Option<(&str, &str)> {
     match line.split_once(" = ") {
         Some(parts) => Some(parts),

@@ -161,15 +161,15 @@ pub fn put_of_air(
     shows: &Shows,
     left: &Left,
     input: &Buffer,
-    files: &[Buffer],
+    other: &Buffer,
 ) -> Option<()> {
     match shows.view {
         "whole" => put_whole(out, left.code(), left.report_text()),
         "played" => put_played(out, left),
         "ended" => put_ended(out, left),
-        "sends" => put_front(out, left, files.first()?.as_slice()),
+        "sends" => put_front(out, left, other.as_slice()),
         "leaves" => {
-            put_front(out, left, files.first()?.as_slice());
+            put_front(out, left, other.as_slice());
             out.say(", ");
             put_lines(out, left.report_text());
         }

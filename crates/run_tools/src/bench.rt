@@ -5,7 +5,7 @@ use row_lines::{Buffer, Holding, World};
 use std::alloc::{AllocError, Global};
 use std::mem;
 
-/// The files of data, the input and the files that a row says, the last run, and the answer of the row.
+/// The files of data, the input and the files that a row says, what a run is compared with, the last run, and the answer of the row.
 #[derive(Drop)]
 pub struct Bench<'a, W> {
     pub rt: &'a W,
@@ -16,6 +16,7 @@ pub struct Bench<'a, W> {
     pub(crate) before: Buffer,
     pub input: Buffer,
     pub files: Vec<Buffer>,
+    pub other: Buffer,
     pub left: Left,
     pub answer: Buffer,
 }
@@ -32,6 +33,7 @@ impl<'a, W: World> Bench<'a, W> {
             before: Buffer::open(alloc),
             input: Buffer::open(alloc),
             files: Vec::new(alloc),
+            other: Buffer::open(alloc),
             left: Left::open(alloc),
             answer: Buffer::open(alloc),
         })
@@ -73,7 +75,8 @@ impl<'a, W: World> Bench<'a, W> {
     /// Whether memory was wanting for what a row says or for a run.
     pub fn lacks(&self) -> bool {
         let files = self.files.iter().any(|file| file.lacks());
-        files || self.input.lacks() || self.made.lacks() || self.left.lacks()
+        let given = files || self.input.lacks() || self.other.lacks();
+        given || self.made.lacks() || self.left.lacks()
     }
 
     /// Runs these words over the input and the files, over this gate.

@@ -58,6 +58,27 @@ fn parted(text: &str) -> (&str, Option<&str>) {
     }
 }
 
+// Whether a path stands after this word.
+fn takes_path(word: &str) -> bool {
+    matches!(word, "--feed" | "--air" | "--resume")
+}
+
+// Whether one of these words names the file of a path, after `=` or as the next word.
+fn is_named(words: &str, path: &str) -> bool {
+    let mut is_path = false;
+    for word in words.split('/') {
+        let named = match word.split_once('=') {
+            Some((option, value)) => takes_path(option) && value == path,
+            None => is_path && word == path,
+        };
+        if named {
+            return true;
+        }
+        is_path = takes_path(word);
+    }
+    false
+}
+
 impl<'a, W: World> Bench<'a, W> {
     // Fills in the input and the files that a row says.
     fn fill(&mut self, sources: &str) -> Option<()> {
@@ -73,17 +94,40 @@ impl<'a, W: World> Bench<'a, W> {
         Some(())
     }
 
-    /// Takes a case: `WORDS ; FAULTS`, `WORDS ; FAULTS ; INPUT`, or this and files, each after ` ; `.
-    pub fn take<'r>(&mut self, text: &'r str) -> Option<Case<'r>> {
+    // Fills in what a row says, and gives its words and its faults.
+    fn read<'r>(&mut self, text: &'r str) -> Option<Case<'r>> {
         let (words, rest) = text.split_once(" ; ")?;
-        let (faults, sources) = parted(rest);
+        let (faults, sources) = rest.split_once(" ; ")?;
         faults_of(faults, 0)?;
         self.input.clear();
+        self.other.clear();
         self.files.clear();
-        if let Some(sources) = sources {
-            self.fill(sources)?;
-        }
+        self.fill(sources)?;
         Some(Case { words, faults })
+    }
+
+    // The case, where its words name each of the files.
+    fn named<'r>(&self, case: Case<'r>) -> Option<Case<'r>> {
+        for place in 1..=self.files.len() {
+            let path = (place as u64).to_string(self.alloc).ok()?;
+            if !is_named(case.words, path.as_str()) {
+                return None;
+            }
+        }
+        Some(case)
+    }
+
+    /// Takes a case: `WORDS ; FAULTS ; INPUT`, or this and files, each after ` ; `, which the words name.
+    pub fn take<'r>(&mut self, text: &'r str) -> Option<Case<'r>> {
+        let case = self.read(text)?;
+        self.named(case)
+    }
+
+    /// Takes a case whose last file no word names: what is left is compared with it.
+    pub fn take_compared<'r>(&mut self, text: &'r str) -> Option<Case<'r>> {
+        let case = self.read(text)?;
+        self.other = self.files.pop()?;
+        self.named(case)
     }
 
     /// Takes a case of a call in which nothing may be said to fail.
@@ -100,7 +144,7 @@ impl<'a, W: World> Bench<'a, W> {
                 put_of_journal(all, shows.view, &self.left);
                 Some(())
             }
-            _ => put_of_air(all, shows, &self.left, &self.input, &self.files),
+            _ => put_of_air(all, shows, &self.left, &self.input, &self.other),
         }
     }
 
@@ -165,7 +209,10 @@ impl<'a, W: World> Bench<'a, W> {
         let (view, rest) = cut(row);
         let (args, rest) = words_after(rest, count_of(view)?);
         let shows = Shows { view, args };
-        let case = self.take(rest)?;
+        let case = match view {
+            "sends" | "leaves" => self.take_compared(rest)?,
+            _ => self.take(rest)?,
+        };
         if case.faults.contains('*') {
             self.put_each(case, &shows)
         } else {

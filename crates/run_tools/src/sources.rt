@@ -67,7 +67,7 @@ impl<'a, W: World> Bench<'a, W> {
             "pmts" => put_pmts(&mut self.made, rest),
             "large" => put_large(self.alloc, rest, &mut self.made),
             "empty" => Some(()),
-            _ if has_form(form, text) => None,
+            _ if text.is_empty() || has_form(form, text) => None,
             _ => put_lines_of(self.alloc, text, &mut self.made),
         }
     }
