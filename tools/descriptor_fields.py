@@ -194,15 +194,15 @@ class Layout(Body):
 
     def words(self, body: bytes) -> List[str]:
         """The words of a body."""
+        fields = [f"{it.name}={it.code.word(value)}" for it, value in self.values(body) if value != it.usual]
+        return [*fields, *self._entry_words(body[bits_of(self.fields) // 8 :])]
+
+    def values(self, body: bytes) -> List[Tuple[Field, int]]:
+        """The values of the fields of a body, but for reserved bits."""
         front = bits_of(self.fields) // 8
         if len(body) < front:
             raise NoDescriptor(f"its body has {len(body)} bytes, and its fields {front}")
-        return [*self._field_words(body[:front]), *self._entry_words(body[front:])]
-
-    def _field_words(self, front: bytes) -> Iterator[str]:
-        for it, value in unpacked(self.fields, front):
-            if value != it.usual:
-                yield f"{it.name}={it.code.word(value)}"
+        return unpacked(self.fields, body[:front])
 
     def _entry_words(self, rest: bytes) -> Iterator[str]:
         size = bits_of(self.entries) // 8
@@ -328,35 +328,3 @@ class Flagged(Body):
         valued = [name for name in self.flags if name in named and name not in self.without_byte]
         values = [packed([Field(name, 8)], {name: Hexadecimal(2).value(named[name])}) for name in valued]
         return bytes([first]) + b"".join(values) + rest
-
-
-class Crids(Body):
-    """Content references (TS 102 323, 12.1): an entry is its type, and then the identifier, or the number that stands for it."""
-
-    TYPE = Names({0: "untyped", 1: "item", 2: "series", 3: "recommendation"})
-    FIRST = (Field("type", 6, TYPE), Field("location", 2))
-    LENGTH = Field("length of the identifier", 8)
-
-    def words(self, body: bytes) -> List[str]:
-        found: List[str] = []
-        while body:
-            kind, location, rest = body[0] >> 2, body[0] & 3, body[1:]
-            size = 2 if location else 1 + (rest[0] if rest else 0)
-            if location > 1 or len(rest) < size:
-                raise NoDescriptor("an entry does not end in it, or is in a place that is reserved")
-            reference = f"0x{rest[:2].hex().upper()}" if location else rest[1:size].decode("latin-1")
-            found.append(f"{self.TYPE.word(kind)}:{reference}")
-            body = rest[size:]
-        return found
-
-    def body(self, words: Sequence[str]) -> bytes:
-        return b"".join(self._entry(word) for word in words)
-
-    def _entry(self, word: str) -> bytes:
-        kind, _, reference = word.partition(":")
-        location = int(reference.startswith("0x"))
-        first = packed(self.FIRST, {"type": self.TYPE.value(kind), "location": location})
-        if location:
-            return first + packed([Field("reference", 16)], {"reference": Hexadecimal(4).value(reference)})
-        coded = reference.encode("latin-1", "replace")
-        return first + packed([self.LENGTH], {self.LENGTH.name: len(coded)}) + coded

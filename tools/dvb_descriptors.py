@@ -1,4 +1,4 @@
-"""The descriptors that `tools/descriptor` knows: one table, by which they are read and written.
+"""The descriptors that the tools know: one table, by which they are read and written.
 
 The clauses are of EN 300 468 where no other standard is named. Descriptors that `listen` shows whole by other lines are left out, but for
 those that may also come a second time.
@@ -6,9 +6,10 @@ those that may also come a second time.
 from __future__ import annotations
 
 from shlex import quote
-from typing import NamedTuple, Optional, Sequence
+from typing import Iterable, List, NamedTuple, Optional, Sequence, Tuple
 
-from descriptor_fields import Body, Crids, Digits, Field, Flagged, Hexadecimal, Layout, Letters, Names, NoDescriptor, Scaled, TeletextPage, ones
+from crids import Crids, Link, Reference, links_of, read_authority, read_references
+from descriptor_fields import Body, Digits, Field, Flagged, Hexadecimal, Layout, Letters, Names, NoDescriptor, Scaled, TeletextPage, ones
 
 LANGUAGE = Letters(3)
 CODE_RATES = Names({0: "1/2", 1: "2/3", 2: "3/4", 3: "5/6", 4: "7/8"})
@@ -49,6 +50,7 @@ COMPONENT = (
     Field("content_ext", 4, Hexadecimal(1), 15), Field("content", 4, Hexadecimal(1)), Field("type", 8, Hexadecimal(2)),
     Field("tag", 8, usual=0), Field("language", 24, LANGUAGE),
 )
+COMPONENT_LAYOUT = Layout(COMPONENT, rest="text")
 TELETEXT = (
     Field("language", 24, LANGUAGE),
     Field("type", 5, Names({1: "initial", 2: "subtitles", 3: "additional", 4: "schedule", 5: "hearing_impaired"})),
@@ -82,7 +84,7 @@ KINDS = (
     Kind("satellite_delivery_system", 0x43, "6.2.13.2", Layout(SATELLITE)),
     Kind("cable_delivery_system", 0x44, "6.2.13.1", Layout(CABLE)),
     Kind("linkage", 0x4A, "6.2.19", Layout(LINKAGE, rest="bytes")),
-    Kind("component", 0x50, "6.2.8", Layout(COMPONENT, rest="text")),
+    Kind("component", 0x50, "6.2.8", COMPONENT_LAYOUT),
     Kind("stream_identifier", 0x52, "6.2.39", Layout((Field("component_tag", 8),))),
     Kind("parental_rating", 0x55, "6.2.28", Layout(entries=(Field("country", 24, LANGUAGE), Field("rating", 8)))),
     Kind("teletext", 0x56, "6.2.43", Layout(entries=TELETEXT)),
@@ -129,3 +131,53 @@ def written(name: str, words: Sequence[str]) -> bytes:
     if len(body) > 255:
         raise NoDescriptor(f"its body has {len(body)} bytes, and at most 255 can be said")
     return bytes([kind.tag, len(body)]) + body
+
+
+# ---- what descriptors say to other tools
+
+TagAndBody = Tuple[int, bytes]
+
+
+class Component(NamedTuple):
+    """What a component_descriptor says, but for its text: stream_content, component_type, component_tag, and a language."""
+
+    content: int
+    type: int
+    tag: int
+    language: str
+
+
+def bodies_of(name: str, descriptors: Iterable[TagAndBody]) -> List[bytes]:
+    """The bodies of the descriptors of a kind."""
+    return [body for tag, body in descriptors if tag == NAMED[name].tag]
+
+
+def components_of(descriptors: Iterable[TagAndBody]) -> List[Component]:
+    """The components of component_descriptors, with a stream_content up to 8 and the one stream_content_ext that those have. The others are
+    passed over, and so is what is not of its form."""
+    found = []
+    for body in bodies_of("component", descriptors):
+        try:
+            values = {it.name: value for it, value in COMPONENT_LAYOUT.values(body)}
+        except NoDescriptor:
+            continue
+        if values["content"] <= 8 and values["content_ext"] == 15:
+            found.append(Component(values["content"], values["type"], values["tag"], LANGUAGE.word(values["language"])))
+    return found
+
+
+def crid_links(descriptors: Iterable[TagAndBody], authority: str) -> List[Link]:
+    """The links of programmes and series, with this default authority. A descriptor that is not of its form has none."""
+    references: List[Reference] = []
+    for body in bodies_of("content_identifier", descriptors):
+        try:
+            references += read_references(body)
+        except NoDescriptor:
+            continue
+    return links_of(references, authority)
+
+
+def default_authority(descriptors: Iterable[TagAndBody]) -> Optional[str]:
+    """The first default authority."""
+    found = map(read_authority, bodies_of("default_authority", descriptors))
+    return next((authority for authority in found if authority), None)

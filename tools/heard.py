@@ -22,9 +22,19 @@ class Genre(NamedTuple):
     user: int
 
 
+class Descriptor(NamedTuple):
+    """A descriptor that `listen --details` printed: the word of the line that it belongs to, `program` for those of a programme, its tag and
+    its body."""
+
+    place: str
+    tag: int
+    body: bytes
+
+
 @dataclass(frozen=True)
 class Event:
-    """An event of a service. Texts are as they were printed, `hex:` and digits where they could not be read."""
+    """An event of a service. Texts are as they were printed, `hex:` and digits where they could not be read. Its descriptors are those that
+    stand after its line."""
 
     id: int
     start: datetime
@@ -36,6 +46,7 @@ class Event:
     country: str
     rating: Optional[int]
     genres: Tuple[Genre, ...]
+    descriptors: List[Descriptor] = field(default_factory=list, hash=False)
 
     @property
     def end(self) -> datetime:
@@ -55,7 +66,7 @@ class Component(NamedTuple):
 
 @dataclass
 class Remote:
-    """A service of another stream; a type is None where no description of the service was heard."""
+    """A service of another stream; a type is None where no description of the service was heard. Its descriptors are those of the SDT."""
 
     id: int
     type: Optional[int]
@@ -64,6 +75,7 @@ class Remote:
     present: Optional[Event] = None
     following: Optional[Event] = None
     events: List[Event] = field(default_factory=list)
+    descriptors: List[Descriptor] = field(default_factory=list)
 
 
 @dataclass
@@ -147,15 +159,6 @@ class Loss(NamedTuple):
     pid: int
 
 
-class Descriptor(NamedTuple):
-    """A descriptor that `listen --details` printed: the word of the line that it belongs to, `program` for those of a programme, its tag and
-    its body."""
-
-    place: str
-    tag: int
-    body: bytes
-
-
 class Junk(NamedTuple):
     """Bytes that `listen --resync` passed over before a packet, or at the end of the recording."""
 
@@ -165,7 +168,7 @@ class Junk(NamedTuple):
 
 @dataclass
 class Heard:
-    """All that a run of `listen` printed."""
+    """All that a run of `listen` printed. The descriptors are all of them, those of services and events too, in the order of their lines."""
 
     clock: Optional[datetime] = None
     local_times: List[LocalTime] = field(default_factory=list)
@@ -230,10 +233,10 @@ def read_genres(text: str) -> Tuple[Genre, ...]:
     return tuple(genres)
 
 
-def read_event(fields: List[str]) -> Event:
+def read_event(fields: List[str], descriptors: List[Descriptor]) -> Event:
     number, start, duration, language, name, short, extended, country, rating, genres = fields
     return Event(int(number), read_moment(start), read_duration(duration), language, name, short, extended, country,
-                 int(rating) if rating else None, read_genres(genres))
+                 int(rating) if rating else None, read_genres(genres), descriptors)
 
 
 def read_local_time(fields: List[str]) -> LocalTime:
@@ -259,6 +262,7 @@ class Reader:
     def __init__(self) -> None:
         self.heard = Heard()
         self._place = ""
+        self._owned: List[Descriptor] = []
         self._words: Dict[str, Callable[[List[str]], None]] = {
             "done": self._done, "lost": self._lost, "junk": self._junk, "clock": self._clock, "local": self._local, "network": self._network,
             "stream": self._stream, "cable": self._cable, "service": self._service, "component": self._component, "other": self._other,
@@ -272,9 +276,9 @@ class Reader:
         if line.startswith("fault: "):
             self.heard.fault = line[len("fault: "):]
         elif word in self._words:
-            self._words[word](fields)
             if word not in ("descriptor", "program"):
-                self._place = word
+                self._place, self._owned = word, []
+            self._words[word](fields)
         elif line:
             self.heard.passed_over += 1
 
@@ -311,8 +315,8 @@ class Reader:
 
     def _service(self, fields: List[str]) -> None:
         number, kind, provider, name, pmt, pcr = fields
-        self.heard.services.append(Service(int(number), number_or_none(kind), provider, name, pmt_pid=number_or_none(pmt),
-                                           pcr_pid=number_or_none(pcr)))
+        self.heard.services.append(Service(int(number), number_or_none(kind), provider, name, descriptors=self._owned,
+                                           pmt_pid=number_or_none(pmt), pcr_pid=number_or_none(pcr)))
 
     def _component(self, fields: List[str]) -> None:
         kind, pid, language = fields
@@ -331,19 +335,21 @@ class Reader:
         number, kind, provider, name = fields
         if not self.heard.others:
             raise ValueError("no other stream stands before it")
-        self.heard.others[-1].services.append(Remote(int(number), int(kind), provider, name))
+        self.heard.others[-1].services.append(Remote(int(number), int(kind), provider, name, descriptors=self._owned))
 
     def _now(self, fields: List[str]) -> None:
-        self._last_service().present = read_event(fields)
+        self._last_service().present = read_event(fields, self._owned)
 
     def _next(self, fields: List[str]) -> None:
-        self._last_service().following = read_event(fields)
+        self._last_service().following = read_event(fields, self._owned)
 
     def _event(self, fields: List[str]) -> None:
-        self._last_service().events.append(read_event(fields))
+        self._last_service().events.append(read_event(fields, self._owned))
 
     def _descriptor(self, fields: List[str]) -> None:
-        self.heard.descriptors.append(read_descriptor(self._place, fields))
+        descriptor = read_descriptor(self._place, fields)
+        self.heard.descriptors.append(descriptor)
+        self._owned.append(descriptor)
 
     def _program(self, fields: List[str]) -> None:
         self.heard.descriptors.append(read_descriptor("program", fields))

@@ -71,6 +71,22 @@ class Lines(unittest.TestCase):
             with self.assertRaises(HeardError):
                 read_heard(["descriptor\t" + digits])
 
+    def test_descriptors_of_services_and_events(self) -> None:
+        """Each has those that stand after its line, and none of another line."""
+        lines = ["network\t1\tN", "descriptor\t730161", "service\t101\t1\t\tOne\t256\t257", "descriptor\t730162", "program\t0900",
+                 "component\t6\t258\tdeu", "descriptor\t5200", "now\t" + EVENT, "descriptor\t7600", "event\t" + EVENT, "descriptor\t5001ff",
+                 "descriptor\t7601ff", "other\t2\t1\t\t\t\t\t", "remote\t5\t1\t\tFive", "descriptor\t730163", "event\t" + EVENT]
+        heard = read_heard(lines)
+        (service,), (remote,) = heard.services, heard.others[0].services
+        assert service.present
+        self.assertEqual(service.descriptors, [Descriptor("service", 0x73, b"b")])
+        self.assertEqual(service.present.descriptors, [Descriptor("now", 0x76, b"")])
+        self.assertEqual(service.events[0].descriptors, [Descriptor("event", 0x50, b"\xff"), Descriptor("event", 0x76, b"\xff")])
+        self.assertEqual((remote.descriptors, remote.events[0].descriptors), ([Descriptor("remote", 0x73, b"c")], []))
+        self.assertEqual([found.place for found in heard.descriptors],
+                         ["network", "service", "program", "component", "now", "event", "event", "remote"])
+        self.assertEqual(hash(service.events[0]), hash(remote.events[0]))
+
     def test_what_is_wanting(self) -> None:
         heard = read_heard(["wanting\tpat", "wanting\tpmt\t256\t101", "end"])
         self.assertEqual((heard.wanting, heard.is_whole), ([("pat",), ("pmt", "256", "101")], False))

@@ -1,4 +1,5 @@
 """Tests of tools/xmltv/to_xmltv, on guides that are written here as docs/FORMATS.md says that `listen` prints them."""
+import random
 import shutil
 import subprocess
 import sys
@@ -19,6 +20,11 @@ def event(number: int = 1, word: str = "event", **fields: str) -> str:
     values = {"start": "2026-11-30T20:00:00Z", "duration": "01:30:00", "language": "ger", "name": "Tatort", "short": "", "extended": "",
               "country": "", "rating": "", "genres": "", **fields}
     return "\t".join([word, str(number), *values.values()])
+
+
+def details(*digits: str, word: str = "descriptor") -> List[str]:
+    """Lines of whole descriptors."""
+    return [f"{word}\t{each}" for each in digits]
 
 
 def guide(*lines: str, head: Optional[List[str]] = None) -> bytes:
@@ -100,6 +106,91 @@ class Documents(unittest.TestCase):
         self.assertEqual((status, out, "same channel id" in said), (1, b"", True))
         self.assertEqual(run_tool("to_xmltv", ["--id", "{other}"], b"")[0], 2)
 
+    def test_what_no_element_has_changes_nothing(self) -> None:
+        """Descriptors of other loops and of other kinds, content references by number or of another type, and what is not of its form."""
+        plain = self.written(guide(SERVICE, "component\t27\t1024\tdeu", event()))
+        others = details("4a0700010001006502", "5500", "76030900ff", "760700052f61627204", "7604cc022f61", "760405022f61", "7603c8022f", "5005f50b016465")
+        lines = [SERVICE, *details("5006f50b01646575", "7604c4022f61"), *details("5006f50b01646575", word="program"), "component\t27\t1024\tdeu",
+                 *details("5006f50b01646575", "7604c4022f61"), event(), *others]
+        self.assertEqual(self.written(guide(*lines)), plain)
+
+    def linked(self, *digits: str, head: Optional[List[str]] = None, service: "tuple[str, ...]" = ()) -> List["tuple[Optional[str], Optional[str]]"]:
+        """The numbers of an event with these descriptors."""
+        lines = [SERVICE, *details(*service), event(short="S1 E2"), *details(*digits)]
+        tv = ElementTree.fromstring(self.written(guide(*lines, head=head)))
+        return [(number.get("system"), number.text) for number in tv.iter("episode-num")][1:]
+
+    def test_links(self) -> None:
+        """`/E7` of a programme and `/S2` of a series, with the private types of TS 102 323 and with its own; each once."""
+        both = [("programme_crid", "crid://example.com/E7"), ("series_crid", "crid://example.com/S2")]
+        own = ("730b6578616d706c652e636f6d",)
+        self.assertEqual(self.linked("760ac4032f4537c8032f5332", service=own), both)
+        self.assertEqual(self.linked("760504032f4537", "760508032f5332", "760ac4032f4537c8032f5332", service=own), both)
+
+    def test_authorities(self) -> None:
+        """The one of the service comes before the one of the stream, and that before the one of the network; one in the CRID before all."""
+        network, stream, cable, service = "73016e", "730173", "730163", "730e637269643a2f2f782e746573742f"
+        head = [*HEAD[:3], *details(network), HEAD[3], *details(stream), HEAD[4], *details(cable)]
+        series = "7605c8032f5332"
+        self.assertEqual(self.linked(series, head=head, service=("7300", service)), [("series_crid", "crid://x.test/S2")])
+        self.assertEqual(self.linked(series, head=head), [("series_crid", "crid://s/S2")])
+        self.assertEqual(self.linked(series, head=[*HEAD[:3], *details(network), *HEAD[3:]]), [("series_crid", "crid://n/S2")])
+        self.assertEqual(self.linked(series), [("series_crid", "/S2")])
+        self.assertEqual(self.linked("7606c804612f5332", head=head), [("series_crid", "crid://a/S2")])
+        self.assertEqual(self.linked("760dc80b437249643a2f2f612f5332", head=head), [("series_crid", "crid://a/S2")])
+
+    def parts(self, *digits: str) -> List[str]:
+        """The elements of picture, sound and subtitles of an event with these descriptors, and their texts."""
+        (found,) = self.programmes(event(), *details(*digits))
+        return [" ".join([element.tag, *element.attrib.values(), *(f"{part.tag}={part.text}" for part in element)]) for element in found[1:]]
+
+    def test_kinds_of_components(self) -> None:
+        """tshark shows the same of each code; of AC-3, whose codes are those of its own descriptor, it does so there."""
+        rows = {
+            "f101": "video aspect=4:3", "f102": "video aspect=16:9", "f103": "video aspect=16:9", "f104": "video aspect=2.21:1",
+            "f107": "video aspect=16:9", "f109": "video aspect=4:3 quality=HDTV", "f10b": "video aspect=16:9 quality=HDTV",
+            "f110": "video aspect=2.21:1 quality=HDTV", "f501": "video aspect=4:3", "f503": "video aspect=16:9",
+            "f50b": "video aspect=16:9 quality=HDTV", "f50c": "video aspect=2.21:1 quality=HDTV", "f50f": "video aspect=16:9 quality=HDTV",
+            "f581": "video aspect=16:9 quality=HDTV", "f201": "audio stereo=mono", "f202": "audio stereo=bilingual", "f203": "audio stereo=stereo",
+            "f205": "audio stereo=surround", "f601": "audio stereo=mono", "f603": "audio stereo=stereo", "f605": "audio stereo=surround",
+            "f643": "audio stereo=stereo", "f442": "audio stereo=stereo", "f443": "audio stereo=dolby", "f444": "audio stereo=dolby digital",
+            "f4c2": "audio stereo=stereo", "f4c5": "audio stereo=dolby digital", "f301": "subtitles teletext language=de",
+            "f310": "subtitles teletext language=de", "f314": "subtitles teletext language=de", "f322": "subtitles teletext language=de",
+            "f330": "subtitles deaf-signed language=de", "f331": "subtitles deaf-signed language=de",
+        }
+        for code, element in rows.items():
+            self.assertEqual(self.parts(f"5006{code}01646575"), [element], code)
+
+    def test_components_that_a_listing_has_no_word_for(self) -> None:
+        """Reserved codes, audio descriptions, sound that is no main one, VBI data, other codings, and another stream_content_ext."""
+        for code in ("f100", "f111", "f502", "f509", "f50d", "f584", "f204", "f240", "f640", "f402", "f452", "f446", "f302", "f303", "f317", "f327",
+                     "f340", "f701", "0900", "010b", "f000"):
+            self.assertEqual(self.parts(f"5006{code}01646575"), [], code)
+
+    def test_several_components(self) -> None:
+        """The first picture, the best sound, and all subtitles in the order of the DTD; a text after the language is passed over."""
+        digits = ("5006f31005656e67", "5006f20302646575", "5008f44403646575483b", "5006f50b01646575", "5006f10301646575", "5006f32006656e67",
+                  "5006f30104676572", "5006f33007000102", "5006f30108646575")
+        self.assertEqual(self.parts(*digits), ["video aspect=16:9 quality=HDTV", "audio stereo=dolby digital", "subtitles teletext language=en",
+                                               "subtitles teletext language=de", "subtitles deaf-signed", "subtitles teletext language=de"])
+        for sounds in (("5006f20202646575", "5006f20303656e67"), ("5006f20302646575", "5006f20203646575", "5006f20104656e67")):
+            self.assertEqual(self.parts(*sounds), ["audio stereo=stereo"])
+
+    def test_no_descriptor_is_an_error(self) -> None:
+        draws = random.Random(3)
+        for _ in range(20):
+            bodies = [draws.randbytes(draws.randrange(12)) for _ in range(90)]
+            lines = details(*(bytes([draws.choice((0x50, 0x73, 0x76)), len(body), *body]).hex() for body in bodies))
+            found = ElementTree.fromstring(self.written(guide(SERVICE, *lines[:30], event(word="now"), *lines[30:60], event(), *lines[60:])))
+            self.assertEqual(len(found.findall("programme")), 1)
+
+    def test_descriptors_of_the_present_event_and_of_the_schedule(self) -> None:
+        """An event that stands in both has those of both, each link once."""
+        lines = [event(word="now"), *details("760504032f4537", "5006f50b01646575"), event(), *details("7605c4032f4537", "7605c8032f5332")]
+        (found,) = self.programmes(*lines)
+        self.assertEqual([number.text for number in found.findall("episode-num")], ["/E7", "/S2"])
+        self.assertEqual(found.findtext("video/quality"), "HDTV")
+
     def test_what_is_wanting_is_said(self) -> None:
         data = guide("wanting\tpmt\t256\t101", SERVICE, event(), head=HEAD[:1])
         status, out, said = run_tool("to_xmltv", [], data)
@@ -137,7 +228,8 @@ class Documents(unittest.TestCase):
 
     def test_other_programs_take_it(self) -> None:
         full = event(1, country="DEU", rating="9", genres="1.1.0", short="S1 E2: a", extended="b")
-        data = self.written(guide(SERVICE, full, event(2, start="2026-11-30T22:00:00Z", name="")))
+        digits = ("760ac4032f4537c8032f5332", "5006f50b01646575", "5006f20302646575", "5006f30103646575", "5006f33004000102")
+        data = self.written(guide(SERVICE, full, *details(*digits), event(2, start="2026-11-30T22:00:00Z", name="")))
         with tempfile.TemporaryDirectory() as folder:
             path = Path(folder) / "guide.xml"
             path.write_bytes(data)
