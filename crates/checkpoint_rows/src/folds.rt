@@ -1,29 +1,19 @@
 // What the steps of a script leave.
 ghost use Rattle.std.specs.Prelude.{◌≡◌, ◌<◌, ◌≤◌, ◌^◌, [], IfOk};
-ghost use Rattle.journal_model.specs.Steps.{IsStepWithin};
 
 use crate::starts::mux_of;
 use cycle_player::CyclePlayer;
 use desk_checkpoint::write_checkpoint;
 use desk_core::Desk;
 use journal_air::open_player;
-use journal_model::Step;
 use row_lines::{Buffer, Lines};
 use script_lines::{ScriptItem, next_item};
 use std::alloc::{AllocError, Global};
 
-// Does a step; whether there may be more.
-fn step(desk: &mut Desk, who: u32, step: Step) -> Result<bool, AllocError>
-    requires { IsStepWithin step }
-{
-    desk.step(who, step)?;
-    Ok(true)
-}
-
 // Does the next step; whether there may be more.
 fn step_next(alloc: Global, lines: &mut Lines, desk: &mut Desk) -> Result<bool, AllocError> {
     match next_item(alloc, lines, false) {
-        Ok(ScriptItem::Step(who, asked)) => step(desk, who, asked),
+        Ok(ScriptItem::Step(who, step)) => desk.step(who, step).map(|_| true),
         _ => Ok(false),
     }
 }

@@ -1,6 +1,5 @@
 // What the single calls of a hall answer.
 ghost use Rattle.std.specs.Prelude.{◌≡◌, ◌<◌, ℕ};
-ghost use Rattle.mux_model.specs.Sound.{IsSound};
 ghost use Rattle.script_lines.specs.Script.{IsItemWithin};
 ghost use Rattle.journal_model.specs.Steps.{IsStepWithin};
 ghost use Rattle.desk_hall.specs.Turn.{KeepsNumbers};
@@ -11,7 +10,6 @@ use desk_core::Airing;
 use headend_live::{Hall, HallPass};
 use journal_model::Step;
 use journal_text::{ScriptItem, next_item};
-use mux_model::Mux;
 use row_lines::{Buffer, Lines, WHOLE, reader, say};
 use std::alloc::{AllocError, Global};
 use std::fmt::Write;
@@ -85,23 +83,6 @@ fn tell_steps<W: Wait>(
     Ok(())
 }
 
-fn tell_hall<W: Wait>(
-    rt: &W,
-    alloc: Global,
-    mux: Mux,
-    lines: &mut Lines,
-    out: &mut Buffer,
-) -> Result<(), AllocError>
-    requires { IsSound mux }
-{
-    let (hall, mut pass) = Hall::open(alloc, mux, 1)?;
-    tell_steps(rt, alloc, &hall, &mut pass, lines, out)?;
-    let desk = hall.close(pass);
-    out.say("journal ");
-    put_entries(out, desk.entries(), |_| true);
-    Ok(())
-}
-
 /// Appends what each call for the steps of a script answers, and then the journal.
 pub fn tell<W: Wait>(
     rt: &W,
@@ -110,5 +91,10 @@ pub fn tell<W: Wait>(
     out: &mut Buffer,
 ) -> Result<(), AllocError> {
     let mut lines = reader(alloc, text, WHOLE)?;
-    tell_hall(rt, alloc, two_services(alloc)?, &mut lines, out)
+    let (hall, mut pass) = Hall::open(alloc, two_services(alloc)?, 1)?;
+    tell_steps(rt, alloc, &hall, &mut pass, &mut lines, out)?;
+    let desk = hall.close(pass);
+    out.say("journal ");
+    put_entries(out, desk.entries(), |_| true);
+    Ok(())
 }

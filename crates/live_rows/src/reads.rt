@@ -1,28 +1,21 @@
 // What a job that reads leaves: the journal of its hall, and why it ended.
-ghost use Rattle.std.specs.Prelude.{◌≡◌};
-ghost use Rattle.mux_model.specs.Sound.{IsSound};
-
 use crate::halls::two_services;
 use crate::words::{put_entries, put_stop};
-use headend_live::{Hall, HallPass};
-use mux_model::Mux;
+use headend_live::Hall;
 use row_lines::{Buffer, Lines};
 use si_causes::OpenGate;
 use std::alloc::{AllocError, Global};
 use std::sync::Wait;
 
-// Appends what one job leaves of a hall that has no other caller.
-fn tell_job<W: Wait>(
+/// Appends the journal that a job leaves which reads as feed 1 or as the control, and why it ended. The hall has no other caller.
+pub fn tell<W: Wait>(
     rt: &W,
     alloc: Global,
     is_feed: bool,
-    mux: Mux,
     lines: &mut Lines,
     out: &mut Buffer,
-) -> Result<(), AllocError>
-    requires { IsSound mux }
-{
-    let (hall, mut pass) = Hall::open(alloc, mux, 1)?;
+) -> Result<(), AllocError> {
+    let (hall, mut pass) = Hall::open(alloc, two_services(alloc)?, 1)?;
     let stop = if is_feed {
         hall.feed(rt, alloc, &mut pass, 1, lines, &OpenGate)
     } else {
@@ -32,15 +25,4 @@ fn tell_job<W: Wait>(
     put_entries(out, desk.entries(), |_| true);
     put_stop(out, stop);
     Ok(())
-}
-
-/// Appends the journal that a job leaves which reads as feed 1 or as the control, and why it ended.
-pub fn tell<W: Wait>(
-    rt: &W,
-    alloc: Global,
-    is_feed: bool,
-    lines: &mut Lines,
-    out: &mut Buffer,
-) -> Result<(), AllocError> {
-    tell_job(rt, alloc, is_feed, two_services(alloc)?, lines, out)
 }

@@ -1,13 +1,11 @@
 // What a run of two feeds, a control and a player leaves.
-ghost use Rattle.std.specs.Prelude.{◌≡◌, ◌≤◌, [], length, IfOk};
-ghost use Rattle.mux_model.specs.Sound.{IsSound};
+ghost use Rattle.std.specs.Prelude.{◌≤◌, length, IfOk};
 
 use crate::halls::two_services;
 use crate::words::{put_entries, put_steps_of, put_stop};
 use headend_live::{DoneLine, LiveEnd, LivePlan, LiveStop, Numbers, Readers, run_live};
 use journal_model::Entry;
-use mux_model::Mux;
-use row_lines::{Buffer, Holding, Lines, WHOLE, World, reader, say};
+use row_lines::{Buffer, Holding, WHOLE, World, reader, say};
 use si_causes::{MemSink, MemSource};
 use std::alloc::{AllocError, Global};
 use std::fmt::Write;
@@ -25,13 +23,6 @@ pub struct Run<'a> {
     pub second: &'a str,
 }
 
-// A plan, and where its run takes memory.
-#[derive(Drop)]
-struct Plan {
-    alloc: Global,
-    live: LivePlan,
-}
-
 type Left = LiveEnd<MemSource, MemSource>;
 
 // The readers of two feeds.
@@ -44,24 +35,7 @@ fn feeds_of(alloc: Global, run: &Run) -> Result<Readers<MemSource>, AllocError>
     Ok(feeds)
 }
 
-// What a run of these readers leaves.
-fn ended<W: World>(
-    rt: &W,
-    mux: Mux,
-    plan: Plan,
-    feeds: Readers<MemSource>,
-    control: Lines,
-    air: &mut MemSink,
-    gate: &Holding,
-) -> Result<Left, AllocError>
-    requires sound { IsSound mux }
-    requires few { length feeds.items ≤ 16 }
-    requires cycles { plan.live.cycles ≤ 1000 }
-    requires views { plan.live.views ≡ [] }
-{
-    run_live(rt, plan.alloc, mux, plan.live, feeds, control, air, gate)
-}
-
+// What a run leaves.
 fn ended_of<W: World>(
     rt: &W,
     alloc: Global,
@@ -72,12 +46,12 @@ fn ended_of<W: World>(
     let feeds = feeds_of(alloc, run)?;
     let control = reader(alloc, run.control, WHOLE)?;
     let mux = two_services(alloc)?;
-    let live = LivePlan {
+    let plan = LivePlan {
         cycles: u64::from(run.cycles).min(1000),
         join: u64::from(run.join),
         views: Numbers::new(alloc),
     };
-    ended(rt, mux, Plan { alloc, live }, feeds, control, air, gate)
+    run_live(rt, alloc, mux, plan, feeds, control, air, gate)
 }
 
 fn put_live_stop(out: &mut Buffer, stop: Option<LiveStop>) {

@@ -2,7 +2,8 @@
 ghost use Rattle.std.specs.Prelude.{None};
 
 use epg_cli::{Status, run_followed, run_listen, run_play};
-use row_lines::World;
+use row_airs::put_names;
+use row_lines::{Buffer, World};
 use run_tools::Bench;
 use si_causes::{Failed, Sink, Source};
 use std::alloc::Global;
@@ -11,15 +12,38 @@ use std::cell::Cell;
 // How many bytes the cycles of these scripts have.
 const CYCLE: usize = 6 * 188;
 
-// A source that gives one piece a read, and looks at each read how many bytes a sink has taken.
+// A source that gives one piece a read, or a sink. Each looks at each call how many bytes sinks have taken into this count, which they may
+// share.
 #[derive(Drop)]
 struct Watching<'a> {
     pieces: &'a [&'a [u8]],
     taken: &'a Cell<usize>,
-    // how many bytes the sink is to have taken at each read
+    // how many bytes are to be taken at each call
     due: &'a [usize],
-    reads: usize,
+    calls: usize,
     agrees: bool,
+}
+
+fn watch<'a>(pieces: &'a [&'a [u8]], taken: &'a Cell<usize>, due: &'a [usize]) -> Watching<'a> {
+    Watching {
+        pieces,
+        taken,
+        due,
+        calls: 0,
+        agrees: true,
+    }
+}
+
+impl<'a> Watching<'a> {
+    fn look(&mut self) {
+        self.agrees = self.agrees && self.due.get(self.calls) == Some(&self.taken.get());
+        self.calls = self.calls.saturating_add(1);
+    }
+
+    // Whether each call found what was due, and none was left out.
+    fn is_kept(&self) -> bool {
+        self.agrees && self.calls == self.due.len()
+    }
 }
 
 impl<'a> Source for Watching<'a> {
@@ -34,35 +58,15 @@ impl<'a> Source for Watching<'a> {
     ghost same_later = { λ _ _ _ _ _. tt };
 
     fn read(&mut self, into: &mut [u8]) -> Result<usize, Failed> {
-        self.agrees = self.agrees && self.due.get(self.reads) == Some(&self.taken.get());
-        let piece = self.pieces.get(self.reads).copied().unwrap_or(&[]);
-        self.reads = self.reads.saturating_add(1);
+        let piece = self.pieces.get(self.calls).copied().unwrap_or(&[]);
+        self.look();
         let count = piece.len().min(into.len());
         into[..count].copy_from_slice(&piece[..count]);
         Ok(count)
     }
 }
 
-// A sink that counts what it takes into a count, which it may share with another sink, and looks at each write what both have taken.
-#[derive(Drop)]
-struct Counting<'a> {
-    taken: &'a Cell<usize>,
-    // how many bytes both are to have taken at each write
-    due: &'a [usize],
-    writes: usize,
-    agrees: bool,
-}
-
-fn sink_of<'a>(taken: &'a Cell<usize>, due: &'a [usize]) -> Counting<'a> {
-    Counting {
-        taken,
-        due,
-        writes: 0,
-        agrees: true,
-    }
-}
-
-impl<'a> Sink for Counting<'a> {
+impl<'a> Sink for Watching<'a> {
     ghost written = { λ _. None };
 
     ghost faults = { λ _. 0 };
@@ -74,8 +78,7 @@ impl<'a> Sink for Counting<'a> {
     ghost same_later = { λ _ _ _ _ _. tt };
 
     fn write(&mut self, from: &[u8]) -> Result<usize, Failed> {
-        self.agrees = self.agrees && self.due.get(self.writes) == Some(&self.taken.get());
-        self.writes = self.writes.saturating_add(1);
+        self.look();
         self.taken.set(self.taken.get().saturating_add(from.len()));
         Ok(from.len())
     }
@@ -97,19 +100,12 @@ const SENT: &[usize] = &[0, 0, 0, 0, 0, 0, CYCLE, CYCLE, 2 * CYCLE];
 
 // Whether `play` sends each cycle before it reads the next line.
 fn sends_before_it_reads(alloc: Global) -> bool {
-    let taken = Cell::new(0);
-    let mut input = Watching {
-        pieces: LINES,
-        taken: &taken,
-        due: SENT,
-        reads: 0,
-        agrees: true,
-    };
-    let unseen = Cell::new(0);
-    let mut air = sink_of(&taken, &[]);
-    let mut report = sink_of(&unseen, &[]);
+    let (taken, unseen) = (Cell::new(0), Cell::new(0));
+    let mut input = watch(LINES, &taken, SENT);
+    let mut air = watch(&[], &taken, &[]);
+    let mut report = watch(&[], &unseen, &[]);
     let status = run_play(alloc, &mut input, &mut air, &mut report);
-    status == Status::Done && input.agrees && input.reads == SENT.len()
+    status == Status::Done && input.is_kept()
 }
 
 // How many bytes the report and the air of these lines have together when each line is read, and when the end is met: the entry of the
@@ -122,19 +118,11 @@ const ENTERED: &[usize] = &[64, 104 + CYCLE];
 // Whether `play --follow` reports each entry before it sends a cycle or reads the next line, and sends each cycle before it reads that line.
 fn follows_line_by_line(alloc: Global) -> bool {
     let taken = Cell::new(0);
-    let mut input = Watching {
-        pieces: LINES,
-        taken: &taken,
-        due: FOLLOWED,
-        reads: 0,
-        agrees: true,
-    };
-    let mut air = sink_of(&taken, ENTERED);
-    let mut report = sink_of(&taken, &[]);
+    let mut input = watch(LINES, &taken, FOLLOWED);
+    let mut air = watch(&[], &taken, ENTERED);
+    let mut report = watch(&[], &taken, &[]);
     let status = run_followed(alloc, false, &mut input, &mut air, &mut report);
-    let as_read = input.agrees && input.reads == FOLLOWED.len();
-    let as_sent = air.agrees && air.writes == ENTERED.len();
-    status == Status::Done && as_read && as_sent
+    status == Status::Done && input.is_kept() && air.is_kept()
 }
 
 // How many bytes are reported when each of 18 packets is read, and when the end is met: in the first cycle each of PAT, PMT, NIT and
@@ -156,40 +144,17 @@ end
 // Whether `listen` reports the completions of each of these packets before it reads the next one.
 fn reports_before_it_reads(alloc: Global, packets: &[&[u8]]) -> bool {
     let taken = Cell::new(0);
-    let mut input = Watching {
-        pieces: packets,
-        taken: &taken,
-        due: REPORTED,
-        reads: 0,
-        agrees: true,
-    };
-    let mut report = sink_of(&taken, &[]);
+    let mut input = watch(packets, &taken, REPORTED);
+    let mut report = watch(&[], &taken, &[]);
     let status = run_listen(alloc, &mut input, &mut report);
-    status == Status::Done
-        && input.agrees
-        && input.reads == REPORTED.len()
-        && taken.get() == 174 + GUIDE.len()
+    status == Status::Done && input.is_kept() && taken.get() == 174 + GUIDE.len()
 }
 
-// The air of three swaps, each of a new name.
-const THREE_NAMES: &str = "\
-network,40,Demo
-stream,1,1
-service,101,1,1,256,257,Acme,One
-end
-feed,1,name,101,Acme,News 0
-publish
-swap
-feed,1,name,101,Acme,News 1
-publish
-swap
-feed,1,name,101,Acme,News 2
-publish
-swap
-";
-
+// The same of the air of three swaps, each of a new name.
 fn reports_in_order<W: World>(bench: &mut Bench<W>) -> Option<bool> {
-    bench.run_over("play", THREE_NAMES.as_bytes());
+    let mut script = Buffer::open(bench.alloc);
+    put_names("3", &mut script)?;
+    bench.run_over("play", script.as_slice());
     let packets: Vec<&[u8]> = bench.left.air().chunks(188).collect(bench.alloc).ok()?;
     Some(reports_before_it_reads(bench.alloc, &packets))
 }

@@ -37,16 +37,12 @@ fn swap(row: &mut Row, checker: &mut Checker, moment: Moment, text: &str)
     }
 }
 
+// What an auditor says of a packet: that it is accepted, or the rule that it breaks.
+const SAID: [&str; 6] = [" ok", " shape", " pid", " counter", " pointer", " bytes"];
+
 fn check(row: &mut Row, checker: &mut Checker, packet: &[u8; 188]) {
     row.begin_part();
-    row.put(match checker.check(packet) {
-        None => " ok",
-        Some(Rule::Shape) => " shape",
-        Some(Rule::Pid) => " pid",
-        Some(Rule::Counter) => " counter",
-        Some(Rule::Pointer) => " pointer",
-        Some(Rule::Bytes) => " bytes",
-    });
+    row.put(SAID[rule_index(checker.check(packet))]);
 }
 
 fn put_end(row: &mut Row, checker: &Checker) {
@@ -194,8 +190,9 @@ fn check_bits(row: &mut Row, checker: &mut Checker, packet: &[u8; 188]) {
         count_bits(&mut counts, checker, packet, place);
     }
     row.begin_part();
-    say!(row; " ok {} shape {} pid {}", counts[0], counts[1], counts[2]);
-    say!(row; " counter {} pointer {} bytes {}", counts[3], counts[4], counts[5]);
+    for (said, count) in SAID.iter().zip(counts) {
+        say!(row; "{said} {count}");
+    }
 }
 
 fn count_bits(counts: &mut [u64; 6], checker: &mut Checker, packet: &[u8; 188], place: usize)
@@ -204,13 +201,9 @@ fn count_bits(counts: &mut [u64; 6], checker: &mut Checker, packet: &[u8; 188], 
     for bit in [1, 2, 4, 8, 16, 32, 64, 128] {
         let mut other = *packet;
         other[place] ^= bit;
-        count(counts, checker.check(&other));
+        let index = rule_index(checker.check(&other));
+        counts[index] = counts[index].saturating_add(1);
     }
-}
-
-fn count(counts: &mut [u64; 6], rule: Option<Rule>) {
-    let index = rule_index(rule);
-    counts[index] = counts[index].saturating_add(1);
 }
 
 fn rule_index(rule: Option<Rule>) -> usize
