@@ -227,12 +227,13 @@ genres-left (g ∷ genres) ds fit none =
 all-left : {A : Type 0} (P : RawDesc → Type 0) (tag : ℕ) (read : List ℕ → Option A) (whole : List ℕ → Bool) (ds : List RawDesc)
     → AllByRecursion P ds → AllByRecursion P (without_first tag read whole ds)
 all-left P tag read whole [] h = tt
-all-left P tag read whole (d ∷ ds) h = go (is_some (said_by tag read d)) (whole d.body)
+all-left P tag read whole (d ∷ ds) h = go (is_some (said_by tag read d)) (whole d.body) (all-left P tag read whole ds h.1)
   where
-    go : (said shown : Bool) → AllByRecursion P (if said then (if shown then ds else d ∷ ds) else d ∷ without_first tag read whole ds)
-    go true true = h.1
-    go true false = h
-    go false shown = (h.0, all-left P tag read whole ds h.1)
+    go : (said shown : Bool) → AllByRecursion P (without_first tag read whole ds)
+        → AllByRecursion P (if said then (if shown then ds else d ∷ ds) else d ∷ without_first tag read whole ds)
+    go true true later = h.1
+    go true false later = h
+    go false shown later = (h.0, later)
 
 -- the first of each kind is shown whole
 firsts-left : (e : Event) → IsTyped e → AllByRecursion HasNibbles e.genres → AreFurther e.rating e.descriptors
