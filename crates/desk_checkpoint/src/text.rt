@@ -134,7 +134,6 @@ fn item_of(alloc: Global, event: &Event) -> Result<Item, AllocError>
         extended: event.extended.copy()?,
         rating: item_rating(alloc, event)?,
         genres: event.genres.copy()?,
-        descriptors: event.descriptors.copy()?,
     })
 }
 

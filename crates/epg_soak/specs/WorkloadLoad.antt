@@ -57,7 +57,6 @@ show_item s = record {
   extended = [];
   rating = None;
   genres = [];
-  descriptors = [];
 }
 
 abbrev pub name_edit : ℕ → Edit

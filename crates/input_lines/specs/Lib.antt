@@ -1,6 +1,5 @@
 pub mod Fields
 pub mod Numbers
-pub mod Groups
 pub mod Lines
 pub mod Going
 pub mod Records

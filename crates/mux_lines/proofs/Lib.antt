@@ -1,2 +1,3 @@
 pub mod EightFields
+pub mod GroupFacts
 pub mod FineFields

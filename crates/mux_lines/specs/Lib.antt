@@ -1,4 +1,5 @@
 pub mod Found
+pub mod Groups
 pub mod Further
 pub mod Fields
 pub mod Fine

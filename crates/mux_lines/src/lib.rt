@@ -8,6 +8,7 @@
 #![tactic(auto)]
 
 mod further;
+mod groups;
 mod laws;
 mod numbers;
 mod record;

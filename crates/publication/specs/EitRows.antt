@@ -38,7 +38,6 @@ news id start seconds = record {
   extended = [];
   rating = None;
   genres = [];
-  descriptors = [];
 }
 
 abbrev with_events : List Event → ServiceGuide

@@ -29,7 +29,6 @@ pub enum FieldName {
     Country,
     Rating,
     Genres,
-    Descriptors,
 }
 
 /// Why a script line is at fault in its place. A field has its number in the line, from 1.
