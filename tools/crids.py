@@ -75,6 +75,11 @@ class Crids(Body):
         return Reference(TYPE.value(kind), "" if number is not None else named, number)
 
 
+def reference_size(reference: Reference) -> int:
+    """The bytes of an entry with an identifier."""
+    return 2 + len(reference.identifier)
+
+
 def read_authority(body: bytes) -> Optional[str]:
     """The authority in the body of a default_authority_descriptor; None where there is none."""
     found = AUTHORITY.fullmatch(body.decode("latin-1"))
@@ -94,6 +99,11 @@ class Crid(NamedTuple):
         """The CRID whole. Without any authority it stands as it is."""
         authority = self.authority or default
         return f"crid://{authority}{self.data}" if authority else self.data
+
+    @property
+    def identifier(self) -> str:
+        """The CRID as a descriptor has it."""
+        return self.authority + self.data
 
 
 class Link(NamedTuple):
@@ -120,3 +130,9 @@ def links_of(references: Iterable[Reference], authority: str) -> List[Link]:
         if link and link not in found:
             found.append(link)
     return found
+
+
+def reference_of(link: Link) -> Optional[Reference]:
+    """The entry of a link, with the private type of its system; None where the text is no CRID."""
+    crid = read_crid(link.crid)
+    return Reference(SYSTEMS[link.system][0], crid.identifier) if crid else None

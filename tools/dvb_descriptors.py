@@ -8,8 +8,10 @@ from __future__ import annotations
 from shlex import quote
 from typing import Iterable, List, NamedTuple, Optional, Sequence, Tuple
 
-from crids import Crids, Link, Reference, links_of, read_authority, read_references
-from descriptor_fields import Body, Digits, Field, Flagged, Hexadecimal, Layout, Letters, Names, NoDescriptor, Scaled, TeletextPage, ones
+from crids import Crids, Link, Reference, links_of, read_authority, read_references, write_reference
+from descriptor_fields import (
+    Body, Digits, Field, Flagged, Hexadecimal, Layout, Letters, Names, NoDescriptor, Scaled, TeletextPage, ones, packed,
+)
 
 LANGUAGE = Letters(3)
 CODE_RATES = Names({0: "1/2", 1: "2/3", 2: "3/4", 3: "5/6", 4: "7/8"})
@@ -128,12 +130,17 @@ def written(name: str, words: Sequence[str]) -> bytes:
     kind = NAMED[name]
     front = b"" if kind.extension is None else bytes([kind.extension])
     body = front + kind.layout.body(words)
+    return whole(kind, body)
+
+
+def whole(kind: Kind, body: bytes) -> bytes:
+    """A descriptor with this body."""
     if len(body) > 255:
         raise NoDescriptor(f"its body has {len(body)} bytes, and at most 255 can be said")
     return bytes([kind.tag, len(body)]) + body
 
 
-# ---- what descriptors say to other tools
+# ---- descriptors of other tools
 
 TagAndBody = Tuple[int, bytes]
 
@@ -164,6 +171,17 @@ def components_of(descriptors: Iterable[TagAndBody]) -> List[Component]:
         if values["content"] <= 8 and values["content_ext"] == 15:
             found.append(Component(values["content"], values["type"], values["tag"], LANGUAGE.word(values["language"])))
     return found
+
+
+def write_component(component: Component) -> bytes:
+    """A component_descriptor without a text."""
+    values = {"content": component.content, "type": component.type, "tag": component.tag, "language": LANGUAGE.value(component.language)}
+    return whole(NAMED["component"], packed(COMPONENT, values))
+
+
+def write_references(references: Iterable[Reference]) -> bytes:
+    """A content_identifier_descriptor."""
+    return whole(NAMED["content_identifier"], b"".join(map(write_reference, references)))
 
 
 def crid_links(descriptors: Iterable[TagAndBody], authority: str) -> List[Link]:

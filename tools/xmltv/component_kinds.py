@@ -1,9 +1,11 @@
 """Kinds of components: what component_descriptors say (EN 300 468, 6.2.8, table 26 and annex D), and how a listing says it.
 
-A listing has one picture and one sound, and any number of subtitles. Of 25 and 30 Hz, of pan vectors and of the coding it says nothing.
+A listing has one picture and one sound, and any number of subtitles. Of 25 and 30 Hz, of pan vectors and of the coding it says nothing: what
+is written has 25 Hz, and is AVC in high definition, and else MPEG-2.
 """
 from __future__ import annotations
 
+import re
 from typing import Dict, Iterable, List, NamedTuple, Optional, Tuple
 
 from dvb_descriptors import Component
@@ -73,3 +75,50 @@ def kinds_of(components: Iterable[Component]) -> Kinds:
         if found.type and found not in subtitles:
             subtitles.append(found)
     return Kinds(next((VIDEO[code] for code in codes if code in VIDEO), None), max(sounds, key=STEREO.index, default=""), tuple(subtitles))
+
+
+# ---- words of listings
+
+VIDEO_CODES: Dict[Video, Code] = {
+    Video("4:3", ""): (1, 1), Video("16:9", ""): (1, 3), Video(WIDER, ""): (1, 4), Video("4:3", HIGH): (1, 9), Video("16:9", HIGH): (5, 0x0B),
+    Video(WIDER, HIGH): (5, 0x0C),
+}
+AUDIO_CODES: Dict[str, Code] = {
+    "mono": (2, 1), "bilingual": (2, 2), "stereo": (2, 3), "surround": (2, 5), "dolby": (4, 0x43), "dolby digital": (4, 0x44),
+}
+# Subtitles without a type are DVB subtitles. `onscreen` is a part of the picture, and no component.
+SUBTITLES_CODES: Dict[str, Code] = {TELETEXT: (3, 1), "": (3, 0x10), SIGNED: (3, 0x30)}
+RATIO = re.compile(r"(\d{1,4}(?:\.\d{1,4})?)\s*[:x/]\s*(\d{1,4}(?:\.\d{1,4})?)", re.ASCII)
+LINES = re.compile(r"(?:\d{1,5}\s*x\s*)?(\d{3,4})", re.ASCII)
+# The tags of components: the same one has the same tag in each event.
+VIDEO_TAG, AUDIO_TAG, FIRST_SUBTITLES_TAG = 1, 2, 3
+
+
+def is_high(quality: str) -> bool:
+    """Whether a quality is high definition: by its name, or by 720 lines or more."""
+    lines = LINES.search(quality)
+    return re.search("hd|4k|8k", quality.lower()) is not None or lines is not None and int(lines[1]) >= 720
+
+
+def aspect_of(text: str) -> Optional[str]:
+    """The aspect that a ratio is, as `16:9` or `2.35:1`; None for one that the descriptor has not."""
+    found = RATIO.fullmatch(text)
+    ratio = float(found[1]) / float(found[2]) if found and float(found[2]) else 0
+    for aspect, value in (("4:3", 4 / 3), ("16:9", 16 / 9)):
+        if abs(ratio - value) < 0.02:
+            return aspect
+    return WIDER if ratio > 16 / 9 else None
+
+
+def video_code(aspect: str, quality: str) -> Optional[Code]:
+    """The code of a picture. One of high definition without an aspect has 16:9."""
+    found = aspect_of(aspect) if aspect else "16:9" if is_high(quality) else None
+    return VIDEO_CODES[Video(found, HIGH if is_high(quality) else "")] if found else None
+
+
+def audio_code(stereo: str) -> Optional[Code]:
+    return AUDIO_CODES.get(stereo.lower())
+
+
+def subtitles_code(kind: str) -> Optional[Code]:
+    return SUBTITLES_CODES.get(kind.lower())

@@ -46,9 +46,10 @@ def write_edits(services: Sequence[ServiceEvents], with_feed: bool) -> Edits:
 def item_fields(event: Event, number: int) -> Tuple[object, ...]:
     country, rating = event.rating or ("", "")
     genres = " ".join(f"{levels.level_1}.{levels.level_2}.0" for levels in event.genres)
+    descriptors = " ".join(descriptor.hex() for descriptor in event.descriptors)
     return (
         "item", number, write_moment(event.start), write_duration(event.duration), event.language, event.name, event.short, event.extended,
-        country, rating, genres,
+        country, rating, genres, *([descriptors] if descriptors else []),
     )
 
 

@@ -11,6 +11,7 @@ from ratings import Rating
 NAME = 100
 SHORT = 150
 EXTENDED = 1000
+DESCRIPTORS = 240
 LONGEST = 86399
 EVENTS = 2000
 BLOCK = 10800
@@ -27,7 +28,7 @@ PARENTAL_RATING = 6
 
 @dataclass(frozen=True)
 class Event:
-    """An event as an edit has it, but for its id. `extended` counts in bytes of UTF-8, the other texts in coded bytes."""
+    """An event as an edit has it, but for its id. `extended` counts in bytes of UTF-8, the other texts in coded bytes. Descriptors are whole."""
 
     where: str
     start: int
@@ -38,6 +39,7 @@ class Event:
     extended: str
     genres: Tuple[Levels, ...] = ()
     rating: Optional[Rating] = None
+    descriptors: Tuple[bytes, ...] = ()
 
     def __str__(self) -> str:
         return f"{self.where}: {self.name}"
@@ -49,4 +51,4 @@ def entry_size(event: Event) -> int:
     size += sum(EXTENDED_EVENT + coded_size(piece) for piece in pieces(event.extended))
     if event.genres:
         size += CONTENT + 2 * len(event.genres)
-    return size + (PARENTAL_RATING if event.rating else 0)
+    return size + (PARENTAL_RATING if event.rating else 0) + sum(map(len, event.descriptors))

@@ -8,6 +8,9 @@ from typing import BinaryIO, Callable, Iterable, Iterator, List, Optional, Tuple
 from xml.etree.ElementTree import Element
 
 from categories import Levels, genre_of
+from component_kinds import AUDIO_TAG, FIRST_SUBTITLES_TAG, VIDEO_TAG, audio_code, subtitles_code, video_code
+from crids import SYSTEMS, Link, Reference, reference_of
+from dvb_descriptors import Component
 from dvb_text import clean
 from languages import same_language, three_letters
 from ratings import Rating, age_of, country_of, rating_of
@@ -22,7 +25,8 @@ PEOPLE = (("director", "Director"), ("actor", "With"), ("presenter", "Presenter"
 
 @dataclass(frozen=True)
 class Programme:
-    """A programme: moments, texts in one line, a language of three letters, and where it stands. Its title may be empty."""
+    """A programme: moments, texts in one line, a language of three letters, and where it stands. Its title may be empty. Links and components
+    are for its descriptors."""
 
     where: str
     channel: str
@@ -35,6 +39,8 @@ class Programme:
     genres: Tuple[Levels, ...] = ()
     rating: Optional[Rating] = None
     follows_in_clump: bool = False
+    links: Tuple[Reference, ...] = ()
+    components: Tuple[Component, ...] = ()
 
     def __str__(self) -> str:
         return f"{self.where}: {self.title or 'without a title'}"
@@ -48,6 +54,7 @@ class Choices:
     zone: tzinfo = timezone.utc
     country: Optional[str] = None
     with_credits: bool = False
+    with_descriptors: bool = False
 
 
 def read_programmes(
@@ -70,11 +77,13 @@ def read_programme(element: Element, where: str, start: int, choices: Choices, t
     spoken = three_letters(title.get("lang")) if title is not None else None
     wanted = ([spoken] if spoken else []) + list(choices.languages)
     described = [text_in(element, "desc", wanted)] + (credits_of(element) if choices.with_credits else [])
-    stop = read_time(element.get("stop"), choices.zone)
+    stop, language = read_time(element.get("stop"), choices.zone), spoken or (choices.languages or ("und",))[0]
     programme = Programme(
         where, element.get("channel") or "", start, stop, text_of(title), numbered_subtitle(element, wanted),
-        " ".join(text for text in described if text), spoken or (choices.languages or ("und",))[0], genres_of(element, where, tally),
+        " ".join(text for text in described if text), language, genres_of(element, where, tally),
         rating_in(element, where, choices.country, tally), not (element.get("clumpidx") or "0/1").strip().startswith("0/"),
+        links_of(element, where, tally) if choices.with_descriptors else (),
+        tuple(components_of(element, language, where, tally)) if choices.with_descriptors else (),
     )
     if stop is None and element.get("stop"):
         tally.changed("its stop can't be read, so it counts as missing", str(programme))
@@ -160,3 +169,47 @@ def rating_in(element: Element, where: str, wanted: Optional[str], tally: Tally)
             found.append(rating_of(country, age))
     fit = [rating for rating in found if rating is not None]
     return next((rating for rating in fit if rating.country == wanted), fit[0] if fit else None)
+
+
+# ---- links and components
+
+
+def links_of(element: Element, where: str, tally: Tally) -> Tuple[Reference, ...]:
+    """The links of a programme and of its series, each once."""
+    found: List[Reference] = []
+    for number in element.findall("episode-num"):
+        system, text = (number.get("system") or "").strip(), text_of(number)
+        reference = reference_of(Link(system, text)) if system in SYSTEMS else None
+        if reference is not None and reference not in found:
+            found.append(reference)
+        elif reference is None and system in SYSTEMS:
+            tally.no_link(text or "empty", where)
+    return tuple(found)
+
+
+def components_of(element: Element, language: str, where: str, tally: Tally) -> Iterator[Component]:
+    """The picture, the sound and the subtitles. The first two are in the language that is spoken, where the programme has its code, else in
+    that of its title."""
+    spoken = three_letters(text_of(element.find("language"))) or language
+    aspect, quality, stereo = (part_of(element, *names) for names in (("video", "aspect"), ("video", "quality"), ("audio", "stereo")))
+    said = [("video", f"{aspect} {quality}".strip(), video_code(aspect, quality), VIDEO_TAG, spoken)] if aspect or quality else []
+    said += [("audio", stereo, audio_code(stereo), AUDIO_TAG, spoken)] if stereo else []
+    for tag, (kind, code) in enumerate(subtitles_of(element), FIRST_SUBTITLES_TAG):
+        said.append(("subtitles", kind, subtitles_code(kind), tag, code))
+    for name, words, found, tag, code in said:
+        if found:
+            yield Component(*found, tag, code)
+        else:
+            tally.no_kind(f"{name} {words}", where)
+
+
+def part_of(element: Element, name: str, part: str) -> str:
+    """A part of the picture or the sound; empty where the programme has neither, or says that it is not present."""
+    found = element.find(name)
+    return text_of(found.find(part)) if found is not None and text_of(found.find("present")).lower() != "no" else ""
+
+
+def subtitles_of(element: Element) -> List[Tuple[str, str]]:
+    """The type and the language of subtitles, each once; `und` without a code."""
+    found = ((each.get("type") or "", three_letters(text_of(each.find("language"))) or "und") for each in element.findall("subtitles"))
+    return list(dict.fromkeys(found))

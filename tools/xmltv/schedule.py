@@ -6,7 +6,8 @@ from itertools import accumulate
 from typing import Dict, Iterator, List, Optional
 
 from dvb_text import coded_size, cut_to_coded, cut_to_utf8
-from event_sizes import BLOCK, BLOCK_BYTES, EVENTS, EXTENDED, LONGEST, NAME, SHORT, Event, entry_size
+from event_descriptors import fitted_descriptors
+from event_sizes import BLOCK, BLOCK_BYTES, DESCRIPTORS, EVENTS, EXTENDED, LONGEST, NAME, SHORT, Event, entry_size
 from listings import Programme
 from tally import Tally
 from xmltv_times import END_OF_TIME, write_moment
@@ -130,9 +131,10 @@ def event_of(programme: Programme, window: Window, tally: Tally) -> Event:
     short, extended = programme.subtitle, programme.description
     if not short and coded_size(extended) <= SHORT:
         short, extended = extended, ""
+    further = fitted_descriptors(programme.components, programme.links)
     event = Event(
         programme.where, programme.start, stop_of(programme) - programme.start, programme.language, name,
-        cut_to_coded(short, SHORT), cut_to_utf8(extended, EXTENDED), programme.genres, programme.rating,
+        cut_to_coded(short, SHORT), cut_to_utf8(extended, EXTENDED), programme.genres, programme.rating, further.descriptors,
     )
     if not programme.title:
         tally.changed("it has no title", f"{programme} at {write_moment(programme.start)}")
@@ -142,6 +144,8 @@ def event_of(programme: Programme, window: Window, tally: Tally) -> Event:
         tally.changed(f"its sub-title is cut to {SHORT} bytes", str(programme))
     if event.extended != extended:
         tally.changed(f"its description is cut to {EXTENDED:,} bytes", str(programme))
+    if not further.is_all:
+        tally.changed(f"some of its links and kinds are left out, since they have more than {DESCRIPTORS} bytes", str(programme))
     return event
 
 
@@ -154,19 +158,23 @@ def is_too_big(block: List[Event]) -> bool:
 
 def fitted(block: List[Event], tally: Tally) -> List[Event]:
     """The events of three hours with at most 20,000 bytes: descriptions are cut to the greatest length with which they fit. Where none
-    fits, the short texts go as well, and then the last events."""
+    fits, the short texts go as well, then links and kinds, and then the last events."""
     if not is_too_big(block):
         return block
     shorter = with_extended(block, fitting_length(block))
     if is_too_big(shorter):
         shorter = [replace(event, short="") for event in shorter]
+    if is_too_big(shorter):
+        shorter = [replace(event, descriptors=()) for event in shorter]
     room = [total <= BLOCK_BYTES for total in accumulate(map(entry_size, shorter))].count(True)
     for event in shorter[room:]:
         tally.left_out(f"its three hours have more than {BLOCK_BYTES:,} bytes", str(event))
     shorter = shorter[:room]
     for before, event in zip(block, shorter):
-        if before != event:
+        if replace(before, descriptors=event.descriptors) != event:
             tally.changed(f"its texts are cut, since its three hours have more than {BLOCK_BYTES:,} bytes", str(event))
+        if before.descriptors != event.descriptors:
+            tally.changed(f"its links and kinds are left out, since its three hours have more than {BLOCK_BYTES:,} bytes", str(event))
     return shorter
 
 

@@ -6,7 +6,7 @@ ghost use Rattle.guide_board.specs.Posts.{IsInOrder, services_of};
 ghost use Rattle.board_rows.specs.Stages.{IsAtTime};
 
 use guide_board::{NoService, NowNext, Slot};
-use guide_model::{Event, Events, Genres, ServiceGuide, Txt};
+use guide_model::{Event, Events, Genres, RawDescs, ServiceGuide, Txt};
 use page_share::{Page, PageGuide};
 use row_lines::{Row, moment_text, say, text_of};
 use si_time::{Moment, read_duration};
@@ -36,6 +36,7 @@ fn event(alloc: Global, id: u16, time: u64, seconds: u32) -> Result<Event, Alloc
         extended: no_text(alloc)?,
         rating: None,
         genres: Genres::new(alloc),
+        descriptors: RawDescs::new(alloc),
     })
 }
 

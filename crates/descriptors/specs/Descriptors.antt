@@ -1,6 +1,7 @@
 -- Descriptors, one after the other (ISO/IEC 13818-1, 2.6; EN 300 468, 6.1).
-use Rattle.std.specs.Prelude.{◌≡◌, ℕ, ◌<◌, List, ◌∷◌, length}
+use Rattle.std.specs.Prelude.{◌≡◌, ℕ, List, ◌∷◌}
 use Rattle.std.specs.List.{flat_map, AllByRecursion}
+use Rattle.guide_model.specs.Descriptors.{FitsDescriptor}
 use Rattle.descriptors.specs.Lengths.{with_length}
 use Rattle.guide_model.specs.declared.descriptor.RawDesc.{RawDesc}
 
@@ -14,14 +15,10 @@ descriptor_bytes d = descriptor d.tag d.body
 abbrev pub descriptors_bytes : List RawDesc → List ℕ
 descriptors_bytes descs = flat_map descriptor_bytes descs
 
--- its body fits the length of 8 bits
-abbrev pub FitsDescriptor : RawDesc → Type 0
-FitsDescriptor d = length d.body < 256
-
 -- The bytes are just these descriptors, and each length fits its field of 8 bits.
 pub record AreDescriptors (bytes : List ℕ) (descs : List RawDesc) : Type 0 where
   pub whole : bytes ≡ flat_map descriptor_bytes descs
-  pub lengths : AllByRecursion (λ d. length d.body < 256) descs
+  pub lengths : AllByRecursion FitsDescriptor descs
 
 -- Bytes are the descriptors of one list at most.
 abbrev pub DescriptorsAreUnique : Type 0

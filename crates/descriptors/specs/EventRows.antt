@@ -98,6 +98,7 @@ film = record {
   extended = codes "ab";
   rating = Some (record { country = codes "GBR"; value = 5 });
   genres = record { level1 = 2; level2 = 0; user = 0 } ∷ [];
+  descriptors = [];
 }
 
 row_event : event_descriptors film
@@ -113,6 +114,35 @@ unfolding pieces first_pieces cut_size greatest_cut
 row_size = refl
 
 -- one with a name alone: its entry has 23 bytes
-row_bare_size : entry_size (record { id = 7; start = record { 0 = 4257234000 }; seconds = 1800; language = codes "eng"; name = codes "News"; short = []; extended = []; rating = None; genres = [] }) ≡ 23
+row_bare_size : entry_size (record { id = 7; start = record { 0 = 4257234000 }; seconds = 1800; language = codes "eng"; name = codes "News"; short = []; extended = []; rating = None; genres = []; descriptors = [] }) ≡ 23
 unfolding pieces first_pieces
 row_bare_size = refl
+
+-- ---- News with a component_descriptor and a content_identifier_descriptor: its entry has 43 bytes, of which 20 are theirs
+
+abbrev described : Event
+described = record {
+  id = 7;
+  start = record { 0 = 4257234000 };
+  seconds = 1800;
+  language = codes "eng";
+  name = codes "News";
+  short = [];
+  extended = [];
+  rating = None;
+  genres = [];
+  descriptors = record { tag = 0x50; body = 0xF5 ∷ 0x0B ∷ 0x01 ∷ 0x64 ∷ 0x65 ∷ 0x75 ∷ [] }
+      ∷ record { tag = 0x76; body = 0xC4 ∷ 0x03 ∷ 0x2F ∷ 0x45 ∷ 0x37 ∷ 0xC8 ∷ 0x03 ∷ 0x2F ∷ 0x53 ∷ 0x32 ∷ [] }
+      ∷ [];
+}
+
+row_described : event_descriptors described
+    ≡ 0x4D ∷ 0x09 ∷ 0x65 ∷ 0x6E ∷ 0x67 ∷ 0x04 ∷ 0x4E ∷ 0x65 ∷ 0x77 ∷ 0x73 ∷ 0x00
+    ∷ 0x50 ∷ 0x06 ∷ 0xF5 ∷ 0x0B ∷ 0x01 ∷ 0x64 ∷ 0x65 ∷ 0x75
+    ∷ 0x76 ∷ 0x0A ∷ 0xC4 ∷ 0x03 ∷ 0x2F ∷ 0x45 ∷ 0x37 ∷ 0xC8 ∷ 0x03 ∷ 0x2F ∷ 0x53 ∷ 0x32 ∷ []
+unfolding pieces first_pieces
+row_described = refl
+
+row_described_size : entry_size described ≡ 43
+unfolding pieces first_pieces
+row_described_size = refl

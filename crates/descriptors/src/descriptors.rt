@@ -1,12 +1,13 @@
 // Descriptors, one after the other.
 ghost use Rattle.std.specs.Prelude.{◌≡◌, ◌≤◌, ◌++◌, List, IfOk, IfSome, IfNone, OnOk};
 ghost use Rattle.std.specs.List.{All};
-ghost use Rattle.guide_model.specs.Descriptors.{descriptors_size};
+ghost use Rattle.si_base.specs.Room.{Appended, HasRoom};
+ghost use Rattle.guide_model.specs.Descriptors.{FitsDescriptor, descriptors_size};
 ghost use Rattle.guide_model.specs.declared.descriptor.RawDesc.{RawDesc};
-ghost use Rattle.descriptors.specs.Descriptors.{AreDescriptors, FitsDescriptor, descriptor_bytes, descriptors_bytes};
+ghost use Rattle.descriptors.specs.Descriptors.{AreDescriptors, descriptor_bytes, descriptors_bytes};
 
 use guide_model::{RawDesc, RawDescs};
-use si_base::Items;
+use si_base::{Items, put};
 use std::alloc::{AllocError, Global};
 
 /// The descriptors that these bytes are, in order, or `None` exactly where a descriptor_length runs past the end or
@@ -52,6 +53,18 @@ fn write_descriptor(desc: &RawDesc, out: &mut Vec<u8>) -> Result<(), AllocError>
 {
     out.extend_from_slice(&[desc.tag, desc.body.len() as u8])?;
     out.extend_from_slice(desc.body.as_slice())
+}
+
+/// Appends descriptors to a buffer that has room for them.
+pub(crate) fn put_descriptors(descs: &[RawDesc], out: &mut Vec<u8>)
+    requires bodies { All FitsDescriptor descs.now }
+    requires room { HasRoom out.old (descriptors_size descs.now) }
+    ensures { Appended out.old out.new (descriptors_bytes descs.now) }
+{
+    for desc in descs {
+        put(out, &[desc.tag, desc.body.len() as u8]);
+        put(out, desc.body.as_slice());
+    }
 }
 
 /// How many bytes descriptors have. It needs a loop of descriptors that fits its length of 12 bits, and takes no memory.

@@ -5,10 +5,11 @@ ghost use Rattle.si_base.specs.Room.{Appended, HasRoom};
 ghost use Rattle.guide_model.specs.Coding.{all_plain, coded_size, coded_text};
 ghost use Rattle.guide_model.specs.Cutting.{cut_size, pieces};
 ghost use Rattle.descriptors.specs.Content.{HasNibbles};
-ghost use Rattle.descriptors.specs.EventDescriptors.{event_descriptors, extended_events, content_of, rating_of, entry_size, IsWithinLimits};
+ghost use Rattle.descriptors.specs.EventDescriptors.{event_descriptors, extended_events, content_of, rating_of, entry_size, made_descriptors, IsWithinLimits};
 
 use crate::Coded;
 use crate::content::put_content;
+use crate::descriptors::put_descriptors;
 use crate::extended_event::put_extended_event;
 use crate::parental_rating::put_parental_rating;
 use crate::short_event::{put_short_event, short_event_len};
@@ -20,37 +21,56 @@ const HEAD: usize = 12;
 
 /// The size of the event's entry in an event information section: 12 bytes and its descriptors (EN 300 468, 5.2.4).
 /// It needs an event within the limits: a name of at most 100 coded bytes, a short text of at most 150, an extended text
-/// of at most 1,000 bytes and at most 8 genres with levels below 16. It takes no memory, and looks at no text that is
-/// all of the plain set.
+/// of at most 1,000 bytes, at most 8 genres with levels below 16, and further descriptors of at most 240 bytes in all, none of
+/// a kind that is made. It takes no memory, and looks at no text that is all of the plain set.
 pub fn event_len(event: &Event) -> u32
     requires { IsWithinLimits event.now }
     ensures size { result ≡ entry_size event.now }
-    ensures at_most { result ≤ 1338 }
+    ensures at_most { result ≤ 1578 }
 {
     (HEAD + descriptors_len(event)) as u32
 }
 
 /// Appends the descriptors of an event: one short_event; extended_event for each piece of the extended text, numbered
-/// from 0; content where there is a genre; parental_rating where there is a rating (EN 300 468, 6.2). It needs an event
-/// within the limits that `event_len` names. Want of memory leaves `out` unchanged.
+/// from 0; content where there is a genre; parental_rating where there is a rating; its further descriptors
+/// (EN 300 468, 6.2). It needs an event within the limits that `event_len` names. Want of memory leaves `out` unchanged.
 pub fn write_event_descriptors(event: &Event, out: &mut Vec<u8>) -> Result<(), AllocError>
     requires { IsWithinLimits event.now }
     ensures written { OnOk result (out.new.items ≡ out.old.items ++ event_descriptors event.now) }
     ensures memory { OnErr result (out.new.items ≡ out.old.items) }
 {
     out.reserve(descriptors_len(event))?;
+    put_made(event, out);
+    put_descriptors(event.descriptors.as_slice(), out);
+    Ok(())
+}
+
+// Appends those that are made to a buffer that has room for them.
+fn put_made(event: &Event, out: &mut Vec<u8>)
+    requires limits { IsWithinLimits event.now }
+    requires room { HasRoom out.old (length (made_descriptors event.now)) }
+    ensures { Appended out.old out.new (made_descriptors event.now) }
+{
     let name = Coded::of_txt(&event.name);
     let short = Coded::of_txt(&event.short);
     put_short_event(&event.language, &name, &short, out);
     put_extended_events(&event.language, &event.extended, out);
     put_genres(event.genres.as_slice(), out);
     put_rating(event.rating, out);
-    Ok(())
 }
 
 fn descriptors_len(event: &Event) -> usize
     requires { IsWithinLimits event.now }
     ensures size { result ≡ length (event_descriptors event.now) }
+    ensures at_most { result ≤ 1566 }
+{
+    made_len(event) + crate::descriptors_len(event.descriptors.as_slice())
+}
+
+// Those that are made.
+fn made_len(event: &Event) -> usize
+    requires { IsWithinLimits event.now }
+    ensures size { result ≡ length (made_descriptors event.now) }
     ensures at_most { result ≤ 1326 }
 {
     let name = Coded::of_txt(&event.name);

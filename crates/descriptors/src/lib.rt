@@ -20,8 +20,8 @@
 //! A writer of one descriptor appends the written form, or changes nothing where memory runs out. A reader gives
 //! exactly the value of a body, or `None` where it has none. Written descriptors read back
 //! (`written_descriptors_read_back`, `written_event_descriptors_read_back`).
-//! `write_event_descriptors` appends all descriptors of an event. `event_len` is the size of an
-//! event's entry in a section, at most 1,338 bytes.
+//! `write_event_descriptors` appends all descriptors of an event, the further ones last. `event_len` is the size of an
+//! event's entry in a section, at most 1,578 bytes.
 #![tactic(auto)]
 
 mod cable_delivery;

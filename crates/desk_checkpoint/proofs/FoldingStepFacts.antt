@@ -10,6 +10,7 @@ use Rattle.si_time.specs.Readings.{has_shape, moment_in, seconds_at, date_at_fro
 use Rattle.si_time.proofs.RoundTrips.{behind_test}
 use Rattle.si_time.proofs.TextFacts.{moment_in-moment_text}
 use Rattle.guide_model.specs.declared.event.Event.{Event}
+use Rattle.guide_model.proofs.SoundFacts.{small_fit}
 use Rattle.guide_model.specs.declared.event.Rating.{Rating}
 use Rattle.guide_model.specs.declared.guide.ServiceGuide.{ServiceGuide}
 use Rattle.guide_model.specs.declared.guide.Guide.{Guide}
@@ -55,6 +56,7 @@ item_shaped event within = record {
   start = start_shaped event.start.0 (omega (arith, within.lasts, within.window));
   length = duration_shaped event.seconds (omega (arith, within.lasts));
   country = country_there event.rating within.rating;
+  descriptors = small_fit event.descriptors within.limits.room;
 }
 
 put_fine : (feed service : ℕ) (event : Event) → IsEventWithin event → IsFine (edit feed (Put service (event_item event)))

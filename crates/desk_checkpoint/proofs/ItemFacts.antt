@@ -1,23 +1,27 @@
 -- The item of an event within its limits gives the event, and has no fault.
-use Rattle.std.proofs.Common.{◌≡◌, ℕ, ◌+◌, ◌*◌, ◌≤◌, Bool, true, false, not, ◌&&◌, ◌||◌, List, length, Option, Some, None, eqb, ltb, refl, ap, ◌∙◌, arith}
-use Rattle.std.specs.Prelude.{unwrap_or, option_map, is_none}
+use Rattle.std.proofs.Common.{◌≡◌, ℕ, ◌+◌, ◌*◌, ◌≤◌, Bool, true, false, not, ◌&&◌, ◌||◌, List, length, Option, Some, None, eqb, ltb, refl, ap, subst, ◌∙◌, arith}
+use Rattle.std.specs.Prelude.{unwrap_or, option_map, is_none, is_some}
 use Rattle.std.specs.List.{list_all, list_any}
 use Rattle.std.proofs.lemmas.Bool.{cond-false}
 use Rattle.std.proofs.lemmas.Bool.Decides.{nat_tests}
 use Rattle.std.proofs.lemmas.List.Folds.{list_any_none}
 use Rattle.std.proofs.lemmas.List.Elements.{All-weaker}
 use Rattle.guide_model.specs.Coding.{coded_size}
+use Rattle.guide_model.specs.Descriptors.{descriptors_size}
+use Rattle.guide_model.proofs.SoundFacts.{none_outside}
+use Rattle.si_lists.proofs.Outcomes.{mapped}
 use Rattle.si_time.proofs.TextFacts.{moment_in-moment_text, duration_in-duration_text}
 use Rattle.guide_model.specs.declared.event.Event.{Event}
 use Rattle.guide_model.specs.declared.event.Rating.{Rating}
 use Rattle.guide_model.specs.declared.event.Genre.{Genre}
 use Rattle.descriptors.specs.Content.{HasNibbles}
+use Rattle.descriptors.specs.EventDescriptors.{made_of_event}
 use Rattle.journal_model.specs.declared.edit.RawRating.{RawRating}
 use Rattle.journal_model.specs.declared.reply.Field.TheVariants as field
 use Rattle.guide_limits.specs.Events.{end_of}
 use Rattle.guide_limits.specs.Readings.{event_of, rating_of, read_moment, read_duration}
 use Rattle.guide_limits.specs.Limits.{is_small, is_capital, IsRatingWithin, IsEventWithin, AreNamesWithin}
-use Rattle.feed_book.specs.Replies.{refused_if, is_outside, is_wide, rating_fails, misses_day, field_fault, name_fault}
+use Rattle.feed_book.specs.Replies.{refused_if, are_outside, is_outside, is_wide, rating_fails, misses_day, field_fault, name_fault}
 use Rattle.feed_book.proofs.Faults.{not_outside}
 use Rattle.desk_checkpoint.specs.Items.{raw_rating, event_item}
 
@@ -76,14 +80,20 @@ fields_fine event within =
     fine (is_outside 0 1000 (length item.extended)) field.Extended _ (not_outside 0 1000 (length event.extended) (omega arith) within.limits.extended) (
     fine (rating_fails (λ (r : RawRating). not (eqb (length r.country) 3 && list_all is_capital r.country)) item.rating) field.Country _ (country_fine event.rating within.rating) (
     fine (rating_fails (λ (r : RawRating). is_outside 1 15 r.value) item.rating) field.Rating _ (value_fine event.rating within.rating) (
-    fine (ltb 8 (length item.genres) || list_any is_wide item.genres) field.Genre None
-    (neither _ _ (few (length event.genres) within.limits.genres) (list_any_none is_wide event.genres (All-weaker HasNibbles (λ (genre : Genre). is_wide genre ≡ false) narrow event.genres within.limits.levels))) refl)))))))))
+    fine (ltb 8 (length item.genres) || list_any is_wide item.genres) field.Genre _
+    (neither _ _ (few (length event.genres) within.limits.genres) (list_any_none is_wide event.genres (All-weaker HasNibbles (λ (genre : Genre). is_wide genre ≡ false) narrow event.genres within.limits.levels))) (
+    fine (are_outside (is_some item.rating) item.descriptors) field.Descriptor None
+    (subst (λ (b : Bool). are_outside b event.descriptors ≡ false) (mapped raw_rating event.rating)
+    (neither _ _ (short (descriptors_size event.descriptors) within.limits.room) (none_outside (made_of_event (is_some event.rating)) event.descriptors within.limits.descriptors))) refl))))))))))
   where
     late : (event : Event) → end_of event ≤ 65536 * 86400 → ltb (65536 * 86400) (event.start.0 + event.seconds) ≡ false
     late event h = grind (arith, nat_tests)
 
     few : (n : ℕ) → n ≤ 8 → ltb 8 n ≡ false
     few n h = grind (arith, nat_tests)
+
+    short : (n : ℕ) → n ≤ 240 → ltb 240 n ≡ false
+    short n h = grind (arith, nat_tests)
 
 pub names_fine : (provider name : List ℕ) → AreNamesWithin provider name → name_fault provider name ≡ None
 names_fine provider name within =

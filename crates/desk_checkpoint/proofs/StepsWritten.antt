@@ -10,6 +10,9 @@ use Rattle.si_lists.proofs.Filters.{list_all-more}
 use Rattle.guide_model.specs.Decoding.{IsKept}
 use Rattle.guide_model.proofs.CutFacts.{coded_size-bounds}
 use Rattle.guide_model.specs.declared.event.Event.{Event}
+use Rattle.guide_model.specs.declared.descriptor.RawDesc.{RawDesc}
+use Rattle.guide_model.specs.Descriptors.{descriptors_size}
+use Rattle.guide_model.proofs.HexTexts.{texts_size}
 use Rattle.guide_model.specs.declared.event.Rating.{Rating}
 use Rattle.guide_model.specs.declared.guide.ServiceGuide.{ServiceGuide}
 use Rattle.guide_model.specs.declared.guide.Guide.{Guide}
@@ -26,7 +29,7 @@ use Rattle.journal_model.specs.declared.step.Step.TheVariants.{Edit as edit, Tic
 use Rattle.journal_model.specs.declared.step.Entry.{Entry}
 use Rattle.journal_model.specs.Edits.{IsTypedItem, IsTypedEdit}
 use Rattle.journal_model.specs.Steps.{Command, IsStepWithin, IsTypedStep}
-use Rattle.script_lines.specs.EditFields.{country_field, rating_field}
+use Rattle.script_lines.specs.EditFields.{country_field, further_fields, rating_field}
 use Rattle.script_lines.specs.Script.{IsShapedStep}
 use Rattle.guide_limits.specs.KeptService.{KeptService}
 use Rattle.guide_limits.specs.Guides.{kept_after}
@@ -47,7 +50,7 @@ use Rattle.desk_checkpoint.specs.Items.{event_item, filling, raw_rating, refilli
 use Rattle.desk_checkpoint.specs.Steps.{checkpoint_steps, guide_steps, service_steps}
 use Rattle.desk_checkpoint.proofs.FoldingStepFacts.{steps_within}
 use Rattle.desk_checkpoint.specs.Laws.{CanBeFolded, StepsAreReadable}
-use Rattle.desk_checkpoint.proofs.RowSizes.{duration_size, genres_size, moment_size, number_size, row_size, small_size}
+use Rattle.desk_checkpoint.proofs.RowSizes.{duration_size, genres_size, moment_size, most, number_size, row_size, small_size}
 
 -- ---- events
 
@@ -67,7 +70,7 @@ country_kept (Some rating) h = written_kept rating.country (list_all-more is_cap
 
 item_typed : (e : Event) → IsGiven e → IsEventWithin e → IsTypedItem (event_item e)
 item_typed e given within = record {
-  numbers = record { id = given.id; rating = value_small e.rating within.rating; genres = given.genres };
+  numbers = record { id = given.id; rating = value_small e.rating within.rating; genres = given.genres; descriptors = given.descriptors };
   language = written_kept e.language (list_all-more is_small is_written small_written e.language within.language.1);
   name = given.name;
   short = given.short;
@@ -82,6 +85,10 @@ country_size (Some rating) h = let k = h.0 in omega arith
 rating_size : (o : Option Rating) → IsRatingWithin o → length (rating_field (option_map raw_rating o)) ≤ 9
 rating_size None h = omega arith
 rating_size (Some rating) h = small_size rating.value (let k = h.3 in omega arith)
+
+further_size : (ds : List RawDesc) → descriptors_size ds ≤ 240 → most (further_fields ds) ≤ 1443
+further_size [] h = omega arith
+further_size (d ∷ ds) h = omega (arith, h, texts_size (d ∷ ds))
 
 -- ---- steps
 
@@ -116,6 +123,7 @@ put_short feed service e narrow low given within =
       rating_size e.rating within.rating,
       genres_size e.genres given.genres,
       within.limits.genres,
+      further_size e.descriptors within.limits.room,
     )
 
 put_written : (feed service : ℕ) (e : Event) → feed ≤ 255 → service ≤ 65535 → IsGiven e → IsEventWithin e → IsWritten (edit feed (Put service (event_item e)))

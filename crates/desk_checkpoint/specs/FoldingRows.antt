@@ -42,6 +42,7 @@ row_event = record {
   extended = [];
   rating = Some (record { country = codes "GBR"; value = 4 });
   genres = [];
+  descriptors = [];
 }
 
 row_item : event_item row_event ≡ record {
@@ -54,6 +55,7 @@ row_item : event_item row_event ≡ record {
   extended = [];
   rating = Some (record { country = codes "GBR"; value = 4 });
   genres = [];
+  descriptors = [];
 }
 unfolding moments_compute
 row_item = refl

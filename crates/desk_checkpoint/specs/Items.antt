@@ -25,6 +25,7 @@ event_item event = record {
   extended = event.extended;
   rating = option_map raw_rating event.rating;
   genres = event.genres;
+  descriptors = event.descriptors;
 }
 
 -- a put of each event

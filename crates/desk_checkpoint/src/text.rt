@@ -134,6 +134,7 @@ fn item_of(alloc: Global, event: &Event) -> Result<Item, AllocError>
         extended: event.extended.copy()?,
         rating: item_rating(alloc, event)?,
         genres: event.genres.copy()?,
+        descriptors: event.descriptors.copy()?,
     })
 }
 

@@ -1,5 +1,5 @@
 // What lines of edits give.
-use crate::words::put_edit_stop;
+use crate::words::{put_edit_stop, put_further};
 use guide_model::Genre;
 use input_lines::fields;
 use journal_model::{Edit, Item};
@@ -13,7 +13,7 @@ pub fn put_genre(out: &mut Buffer, genre: &Genre) {
     say!(out; ", genre {}.{}.{}", genre.level1, genre.level2, genre.user);
 }
 
-// An item without its texts, its rating and its genres.
+// An item without its texts, its rating, its genres and its further descriptors.
 fn put_front(out: &mut Buffer, item: &Item) {
     let (start, length) = (text_of(&item.start.0), text_of(&item.length.0));
     let language = item.language.as_str();
@@ -30,6 +30,7 @@ fn put_item(out: &mut Buffer, item: &Item) {
     for genre in item.genres.as_slice() {
         put_genre(out, genre);
     }
+    put_further(out, ", ", &item.descriptors);
 }
 
 fn put_day(out: &mut Buffer, service: u16, day: &[u8], items: &[Item]) {

@@ -1,11 +1,11 @@
 // Guides in words.
 use crate::edits::put_genre;
-use crate::words::put_moment;
+use crate::words::{put_further, put_moment};
 use guide_model::{Event, Guide, ServiceGuide};
 use row_lines::{Buffer, say, text_of};
 use std::fmt::Write;
 
-// An event without its rating and its genres.
+// An event without its rating, its genres and its further descriptors.
 fn put_front(out: &mut Buffer, event: &Event) {
     say!(out; ": event {}", event.id);
     put_moment(out, " at ", event.start);
@@ -22,6 +22,7 @@ fn put_event(out: &mut Buffer, event: &Event) {
     for genre in event.genres.as_slice() {
         put_genre(out, genre);
     }
+    put_further(out, ", ", &event.descriptors);
 }
 
 /// Appends the names and events of a service; of more than nine events their number.

@@ -1,6 +1,6 @@
 // What descriptions of a multiplex give.
-use crate::words::{put_moment, put_read_stop};
-use guide_model::{Cable, Component, Offset, RawDesc, RawDescs};
+use crate::words::{put_further, put_moment, put_read_stop};
+use guide_model::{Cable, Component, Offset};
 use mux_config::{MuxFault, MuxStop, Word, read_mux};
 use mux_model::{Mux, MuxService, Other, RemoteService};
 use row_lines::{Buffer, Lines, say, text_of};
@@ -42,23 +42,6 @@ fn put_component(out: &mut Buffer, component: &Component) {
         say!(out; " in {}", text_of(language));
     }
     put_further(out, ", ", &component.descriptors);
-}
-
-// A descriptor: its tag, its length, and at most nine bytes of its body.
-fn put_descriptor(out: &mut Buffer, place: &str, descriptor: &RawDesc) {
-    let body = descriptor.body.as_slice();
-    say!(out; "{place}descriptor {:02x} {} ", descriptor.tag, body.len());
-    for byte in body.iter().take(9) {
-        say!(out; "{byte:02x}");
-    }
-}
-
-// Further descriptors, in their order.
-fn put_further(out: &mut Buffer, place: &str, descriptors: &RawDescs) {
-    let descriptors = descriptors.as_slice();
-    for descriptor in descriptors {
-        put_descriptor(out, place, descriptor);
-    }
 }
 
 // A service; of more than nine components their number.

@@ -1,4 +1,5 @@
 // Parts of answers in words.
+use guide_model::{RawDesc, RawDescs};
 use journal_model::{DayFault, Field, Outcome, Reply};
 use row_lines::{Buffer, moment_text, say, text_of};
 use script_lines::EditStop;
@@ -42,6 +43,7 @@ fn field_word(field: Field) -> &'static str {
         Field::Country => "country",
         Field::Rating => "rating",
         Field::Genre => "genre",
+        Field::Descriptor => "descriptor",
         Field::Provider => "provider",
         Field::ServiceName => "service name",
         Field::Count(_) => "count",
@@ -87,5 +89,22 @@ pub fn put_outcome(out: &mut Buffer, outcome: Outcome) {
             say!(out; "swapped {number}");
             put_moment(out, " at ", at);
         }
+    }
+}
+
+// A descriptor: its tag, its length, and at most nine bytes of its body.
+fn put_descriptor(out: &mut Buffer, place: &str, descriptor: &RawDesc) {
+    let body = descriptor.body.as_slice();
+    say!(out; "{place}descriptor {:02x} {} ", descriptor.tag, body.len());
+    for byte in body.iter().take(9) {
+        say!(out; "{byte:02x}");
+    }
+}
+
+/// Appends further descriptors, in their order.
+pub fn put_further(out: &mut Buffer, place: &str, descriptors: &RawDescs) {
+    let descriptors = descriptors.as_slice();
+    for descriptor in descriptors {
+        put_descriptor(out, place, descriptor);
     }
 }

@@ -5,8 +5,7 @@ use Rattle.std.specs.List.{All, AllByRecursion}
 use Rattle.std.proofs.lemmas.Bool.{cases_Bool}
 use Rattle.std.proofs.lemmas.List.Elements.{All-nil}
 use Rattle.guide_model.specs.declared.descriptor.RawDesc.{RawDesc}
-use Rattle.guide_model.specs.Descriptors.{descriptors_size}
-use Rattle.descriptors.specs.Descriptors.{FitsDescriptor}
+use Rattle.guide_model.specs.Descriptors.{FitsDescriptor, descriptors_size}
 use Rattle.table_bodies.specs.declared.nit.NitStream.{NitStream}
 use Rattle.table_bodies.specs.Nit.{FitsStream, stream_size}
 use Rattle.std.proofs.lemmas.List.Sums.{sum_by-cons}
@@ -71,7 +70,7 @@ block_bytes block (e ∷ events) =
 pub few_fit : (events : List EventAt) → length events ≤ 8 → FitSegments events
 few_fit events few block = runs_few (λ (event : EventAt). event.size) 4078 8 (in_block block events) (omega arith) (omega (arith, few, block_few block events))
 
-pub small_fit : (events : List EventAt) → AllByRecursion (λ (event : EventAt). event.size ≤ 1338) events → sum_by (λ (event : EventAt). event.size) events ≤ 20000 → FitSegments events
+pub small_fit : (events : List EventAt) → AllByRecursion (λ (event : EventAt). event.size ≤ 1578) events → sum_by (λ (event : EventAt). event.size) events ≤ 20000 → FitSegments events
 small_fit events small bytes block = block_fits block events small (omega (arith, bytes, block_bytes block events))
 
 -- ---- tables

@@ -67,7 +67,7 @@ pub fn can_be_placed(events: &[EventAt]) -> bool
     if events.len() <= 8 {
         return true;
     }
-    if !are_at_most(events, 1_338) {
+    if !are_at_most(events, 1_578) {
         return false;
     }
     are_few_bytes(events)

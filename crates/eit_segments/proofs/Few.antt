@@ -15,9 +15,9 @@ use Rattle.eit_segments.specs.Placement.{AreInOrder, start_block, end_at, in_blo
 use Rattle.eit_segments.specs.Schedule.{section_runs, block_runs}
 use Rattle.eit_segments.specs.Laws.{at_of, EventsCanBePlaced}
 
--- a run that is closed has more than 2,740 bytes
-cut_few : {X : Type 0} (size : X → ℕ) (room : ℕ) (run xs : List X) → room ≤ 4078 → AllByRecursion (λ (x : X). size x ≤ 1338) xs
-    → 2741 * length (cut size 4078 room run xs) ≤ 2741 + (4078 - room) + sum_by size xs
+-- a run that is closed has more than 2,500 bytes
+cut_few : {X : Type 0} (size : X → ℕ) (room : ℕ) (run xs : List X) → room ≤ 4078 → AllByRecursion (λ (x : X). size x ≤ 1578) xs
+    → 2501 * length (cut size 4078 room run xs) ≤ 2501 + (4078 - room) + sum_by size xs
 cut_few size room run [] le small = omega arith
 cut_few size room run (x ∷ xs) le small =
     let sum = sum_by-cons size x xs in
@@ -47,11 +47,11 @@ filter_sum {X} size p (x ∷ xs) =
           ap (sum_by size) (cond-false (p x) (x ∷ filter p xs) (filter p xs) e) ∙ omega (arith, none, more, filter_sum size p xs)
     ]
 
-pub block_fits : (block : ℕ) (events : List EventAt) → AllByRecursion (λ (e : EventAt). e.size ≤ 1338) events → sum_by (λ (e : EventAt). e.size) (in_block block events) ≤ 20000
+pub block_fits : (block : ℕ) (events : List EventAt) → AllByRecursion (λ (e : EventAt). e.size ≤ 1578) events → sum_by (λ (e : EventAt). e.size) (in_block block events) ≤ 20000
     → length (block_runs block events) ≤ 8
-block_fits block events small bytes = go (in_block block events) (filter_all (λ (e : EventAt). e.size ≤ 1338) (λ (e : EventAt). eqb (start_block e) block) events small) bytes
+block_fits block events small bytes = go (in_block block events) (filter_all (λ (e : EventAt). e.size ≤ 1578) (λ (e : EventAt). eqb (start_block e) block) events small) bytes
   where
-    go : (es : List EventAt) → AllByRecursion (λ (e : EventAt). e.size ≤ 1338) es → sum_by (λ (e : EventAt). e.size) es ≤ 20000 → length (section_runs es) ≤ 8
+    go : (es : List EventAt) → AllByRecursion (λ (e : EventAt). e.size ≤ 1578) es → sum_by (λ (e : EventAt). e.size) es ≤ 20000 → length (section_runs es) ≤ 8
     go [] small bytes = omega arith
     go (e ∷ es) small bytes =
         omega (arith, bytes, small.0, sum_by-cons (λ (x : EventAt). x.size) e es, cut_few (λ (x : EventAt). x.size) (4078 - e.size) (e ∷ []) es (omega arith) small.1)
@@ -81,6 +81,6 @@ block_bytes block events =
 pub events_can_be_placed : EventsCanBePlaced
 events_can_be_placed events within small = record {
   order = in_order events within.apart;
-  small = all_sizes 1338 4078 (omega arith) events small;
-  fit = λ block. block_fits block (map at_of events) (all_sizes 1338 1338 (omega arith) events small) (omega (arith, block_bytes block events, within.blocks block));
+  small = all_sizes 1578 4078 (omega arith) events small;
+  fit = λ block. block_fits block (map at_of events) (all_sizes 1578 1578 (omega arith) events small) (omega (arith, block_bytes block events, within.blocks block));
 }

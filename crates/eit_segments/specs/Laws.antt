@@ -53,6 +53,6 @@ SchedulesHaveEvents =
 abbrev pub at_of : Event → EventAt
 at_of event = record { start = event.start; seconds = event.seconds; size = entry_size event }
 
--- Events of a service that are within their limits, each with an entry of at most 1,338 bytes, can be placed.
+-- Events of a service that are within their limits, each with an entry of at most 1,578 bytes, can be placed.
 abbrev pub EventsCanBePlaced : Type 0
-EventsCanBePlaced = (events : List Event) → AreWithin events → AllByRecursion (λ (event : Event). entry_size event ≤ 1338) events → CanBePlaced (map at_of events)
+EventsCanBePlaced = (events : List Event) → AreWithin events → AllByRecursion (λ (event : Event). entry_size event ≤ 1578) events → CanBePlaced (map at_of events)

@@ -6,7 +6,7 @@ use Rattle.journal_model.specs.contracts.reply.FieldPartialEq.TheImpl as field_e
 use Rattle.journal_model.specs.contracts.reply.DayFaultPartialEq.TheImpl as fault_eq
 use Rattle.journal_model.specs.contracts.reply.ReplyPartialEq.TheImpl as reply_eq
 use Rattle.journal_model.specs.declared.reply.Field.{Field}
-use Rattle.journal_model.specs.declared.reply.Field.TheVariants.{Start, Duration, Window, Language, Name, Short, Extended, Country, Rating, Genre, Provider, ServiceName, Count, Segment}
+use Rattle.journal_model.specs.declared.reply.Field.TheVariants.{Start, Duration, Window, Language, Name, Short, Extended, Country, Rating, Genre, Descriptor, Provider, ServiceName, Count, Segment}
 use Rattle.journal_model.specs.declared.reply.DayFault.{DayFault}
 use Rattle.journal_model.specs.declared.reply.DayFault.TheVariants.{Range as BadField, Overlap as Overlaps}
 use Rattle.journal_model.specs.declared.reply.Reply.{Reply}
@@ -29,6 +29,7 @@ field_is Extended Extended e = refl
 field_is Country Country e = refl
 field_is Rating Rating e = refl
 field_is Genre Genre e = refl
+field_is Descriptor Descriptor e = refl
 field_is Provider Provider e = refl
 field_is ServiceName ServiceName e = refl
 field_is a b e = cc

@@ -47,10 +47,11 @@ item_shaped s h =
       start = (moment_in-only (moment_text t) t (moment_in-moment_text t (in_window s.start in_range))).shape;
       length = duration_shaped (900 * s.quarters) (in_clock s.quarters h.show.most);
       country = tt;
+      descriptors = tt;
     }
 
 item_numbers : (s : Show) → IsMadeShow s → HasItemNumbers (show_item s)
-item_numbers s h = record { id = (let a = h.id in omega (arith, a)); rating = tt; genres = tt }
+item_numbers s h = record { id = (let a = h.id in omega (arith, a)); rating = tt; genres = tt; descriptors = tt }
 
 -- ---- edits
 

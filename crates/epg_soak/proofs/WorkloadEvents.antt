@@ -41,6 +41,7 @@ show_event s = record {
   extended = [];
   rating = None;
   genres = [];
+  descriptors = [];
 }
 
 start_read : (s : Show) → IsShow s → moment_in (moment_text (moment_at s.start)) ≡ Some (moment_at s.start)

@@ -57,6 +57,7 @@ show_item s = record {
   extended = [];
   rating = None;
   genres = [];
+  descriptors = [];
 }
 
 abbrev pub name_edit : ℕ → Edit

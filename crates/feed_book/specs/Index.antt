@@ -41,7 +41,7 @@ slot_fault slots slot =
 pub record AreSearchable (slots : List IndexedEvent) : Type 0 where
   pub few : length slots ≤ 2000
   pub early : All (λ (slot : IndexedEvent). slot.start < 2 ^ 63) slots
-  pub small : All (λ (slot : IndexedEvent). slot.size ≤ 1338) slots
+  pub small : All (λ (slot : IndexedEvent). slot.size ≤ 1578) slots
   pub starts : IsNonDecreasingBy (λ (slot : IndexedEvent). slot.start) slots
   pub ends : IsNonDecreasingBy (λ (slot : IndexedEvent). slot.start + slot.seconds) slots
 
@@ -49,7 +49,7 @@ pub record AreSearchable (slots : List IndexedEvent) : Type 0 where
 pub record AreIndexed (events : List Event) (slots : List IndexedEvent) : Type 0 where
   pub within : AreWithin events
   pub index : slots ≡ map slot_of events
-  pub small : AllByRecursion (λ (event : Event). entry_size event ≤ 1338) events
+  pub small : AllByRecursion (λ (event : Event). entry_size event ≤ 1578) events
 
 -- a service with its index
 pub record IsIndexed (guide : ServiceGuide) (slots : List IndexedEvent) : Type 0 where

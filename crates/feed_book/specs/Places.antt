@@ -22,7 +22,7 @@ IsPlace slots slot place = (events : List Event) (event : Event) → AreApart ev
 pub record IsNew (slots : List IndexedEvent) (item : Item) (new : NewEvent) : Type 0 where
   pub event : new.event ≡ event_of item
   pub slot : new.slot ≡ slot_of new.event
-  pub small : new.slot.size ≤ 1338
+  pub small : new.slot.size ≤ 1578
   pub place : IsPlace slots new.slot new.place
 
 -- events that are put one after the other

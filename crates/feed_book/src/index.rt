@@ -104,7 +104,7 @@ fn share(slot: &IndexedEvent, other: &IndexedEvent) -> u32
 fn block_size(slots: &[IndexedEvent], slot: &IndexedEvent) -> u32
     requires { AreSearchable slots.now }
     ensures size { result ≡ sum_by (share_of slot.now) slots.now }
-    ensures bound { result ≤ 2676000 }
+    ensures bound { result ≤ 3156000 }
 {
     let block = slot.start / 10_800;
     let mut total = 0;
@@ -133,7 +133,7 @@ fn are_too_many(slots: &[IndexedEvent], id: u16) -> bool
 pub(crate) fn place_fault(slots: &[IndexedEvent], slot: &IndexedEvent) -> Option<DayFault>
     requires slots { AreSearchable slots.now }
     requires early { slot.now.start < 2 ^ 63 }
-    requires small { slot.now.size ≤ 1338 }
+    requires small { slot.now.size ≤ 1578 }
     ensures { result ≡ slot_fault slots.now slot.now }
 {
     if let Some(other) = first_in_the_way(slots, slot) {
@@ -217,7 +217,7 @@ pub(crate) fn slot_of(event: &Event) -> IndexedEvent
     requires { IsEventWithin event.now }
     ensures slot { result ≡ slot_of_event event.now }
     ensures early { result.start < 2 ^ 63 }
-    ensures small { result.size ≤ 1338 }
+    ensures small { result.size ≤ 1578 }
 {
     IndexedEvent {
         id: event.id,

@@ -5,3 +5,5 @@ pub mod CutFacts
 pub mod PieceFacts
 pub mod LenFacts
 mod Joined
+pub mod SoundFacts
+pub mod HexTexts

@@ -1,5 +1,6 @@
 // Events and their parts.
 use crate::Txt;
+use crate::descriptor::RawDescs;
 use si_base::{Copies, Items};
 use si_time::Moment;
 use std::alloc::AllocError;
@@ -22,8 +23,8 @@ pub struct Rating {
     pub value: u8,
 }
 
-/// An event: its id, start, duration in seconds, the language of its texts (three letters), its texts, and where
-/// they are given its rating and genres.
+/// An event: its id, start, duration in seconds, the language of its texts (three letters), its texts, where they are
+/// given its rating and genres, and its further descriptors (EN 300 468, 5.2.4).
 #[derive(Drop)]
 pub struct Event {
     pub id: u16,
@@ -35,6 +36,7 @@ pub struct Event {
     pub extended: Txt,
     pub rating: Option<Rating>,
     pub genres: Genres,
+    pub descriptors: RawDescs,
 }
 
 /// Events, those of one service in ascending order of start.
@@ -58,6 +60,7 @@ impl Copies for Event {
             extended: self.extended.copy()?,
             rating: self.rating,
             genres: self.genres.copy()?,
+            descriptors: self.descriptors.copy()?,
         })
     }
 }

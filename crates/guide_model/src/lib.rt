@@ -1,5 +1,5 @@
-//! The records of a guide, texts and their coded form, and genres as text (EN 300 468, 5.2, 6.2 and
-//! annex A).
+//! The records of a guide, texts and their coded form, and genres and descriptors as text (EN 300 468,
+//! 5.2, 6.2 and annex A).
 //!
 //! The records are events, services, and what a receiver shows of a multiplex (EN 300 468, 5.2 and
 //! 6.2). A list in these records is an `Items`, which contracts see as its elements. A copy of a
@@ -14,13 +14,15 @@
 //! it again, and `plain_cut_len` cuts it.
 //!
 //! [`put_genres`] appends exactly the text of genres that the definition says, for fields of a
-//! journal and of a printed guide. Where memory runs out a part of it may have been appended.
+//! journal and of a printed guide. [`put_descriptor`] and [`put_descriptors`] do so for descriptors
+//! in hexadecimal digits. Where memory runs out a part of a text may have been appended.
 #![tactic(auto)]
 
 mod coding;
 mod cutting;
 mod decoding;
 mod descriptor;
+mod descriptor_text;
 mod event;
 mod genres;
 mod guide;
@@ -35,6 +37,7 @@ pub use coding::{append_text, coded_len, encode_text, is_all_plain, is_plain_byt
 pub use cutting::{cut_len, pieces_join, plain_cut_len};
 pub use decoding::{coded_texts_decode, decode_text};
 pub use descriptor::{RawDesc, RawDescs};
+pub use descriptor_text::{put_descriptor, put_descriptors};
 pub use event::{Event, Events, Genre, Genres, Rating};
 pub use genres::put_genres;
 pub use guide::{Guide, ServiceGuide, ServiceGuides};

@@ -1,10 +1,9 @@
 -- The fields of a printed guide.
-use Rattle.std.specs.Prelude.{ℕ, ◌*◌, ◌%◌, ◌++◌, List, [], ◌∷◌, length, codes, if◌then◌else◌, nat_lt, Option, Some, None}
+use Rattle.std.specs.Prelude.{ℕ, ◌*◌, ◌++◌, List, [], codes, if◌then◌else◌, nat_lt, Option, Some, None}
 use Rattle.std.specs.Char.{is_ascii_alphabetic}
 use Rattle.std.specs.List.{list_all}
 use Rattle.hex.specs.Hex.{encode_lower}
 use Rattle.si_time.specs.Moments.{moment_text, duration_text}
-use Rattle.guide_model.specs.declared.descriptor.RawDesc.{RawDesc}
 use Rattle.guide_model.specs.declared.shown.Shown.{Shown}
 use Rattle.guide_model.specs.declared.shown.Shown.TheVariants.{Text, Hex}
 
@@ -28,10 +27,6 @@ moment_field at = if nat_lt at (65536 * 86400) then moment_text at else []
 -- hh:mm:ss of a duration below 100 hours
 abbrev pub duration_field : ℕ → List ℕ
 duration_field seconds = if nat_lt seconds 360000 then duration_text seconds else []
-
--- a whole descriptor, each byte as two lower-case hexadecimal digits: descriptor_tag, descriptor_length, body (EN 300 468, 6.1)
-abbrev pub descriptor_text : RawDesc → List ℕ
-descriptor_text d = encode_lower (d.tag ∷ length d.body % 256 ∷ d.body)
 
 -- what is missing is written as nothing
 abbrev pub optional : {A : Type 0} → (A → List ℕ) → Option A → List ℕ

@@ -16,7 +16,8 @@ use Rattle.guide_screen.specs.declared.need.Need.TheVariants.{Pat, Nit, Sdt, Clo
 use Rattle.guide_screen.specs.declared.need.Heard.{Heard}
 use Rattle.guide_screen.specs.declared.need.Heard.TheVariants.{Whole, Wanting}
 use Rattle.guide_model.specs.Genres.{genres_text}
-use Rattle.guide_text.specs.Fields.{shown_text, code_text, moment_field, duration_field, optional, descriptor_text}
+use Rattle.guide_model.specs.Descriptors.{descriptor_text}
+use Rattle.guide_text.specs.Fields.{shown_text, code_text, moment_field, duration_field, optional}
 
 -- a line of fields, the first of which is its word: with tabs (9) between, and LF at its end
 abbrev pub line : List (List ℕ) → List ℕ

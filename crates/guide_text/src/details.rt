@@ -1,22 +1,9 @@
 // The lines of further descriptors.
-ghost use Rattle.std.specs.Prelude.{◌≡◌, ◌++◌, ◌∷◌, IfOk, OnOk, flat_map, string_bytes};
-ghost use Rattle.guide_text.specs.Fields.{descriptor_text};
+ghost use Rattle.std.specs.Prelude.{◌≡◌, ◌++◌, OnOk, flat_map};
 ghost use Rattle.guide_text.specs.Guides.{descriptor_line, details_text};
 
-use crate::field::put_field;
 use guide_model::RawDesc;
 use std::alloc::{AllocError, Global};
-
-// A whole descriptor in hexadecimal digits.
-fn digits_of(alloc: Global, desc: &RawDesc) -> Result<String, AllocError>
-    ensures { IfOk result (λ digits. string_bytes digits ≡ descriptor_text desc.now) }
-{
-    let mut bytes = Vec::new(alloc);
-    bytes.push(desc.tag)?;
-    bytes.push((desc.body.len() % 256) as u8)?;
-    bytes.extend_from_slice(desc.body.as_slice())?;
-    hex::encode(alloc, &bytes)
-}
 
 // Appends the line of a descriptor, which begins with this word.
 fn put_descriptor(
@@ -27,9 +14,9 @@ fn put_descriptor(
 ) -> Result<(), AllocError>
     ensures { OnOk result (out.new.items ≡ out.old.items ++ descriptor_line word.now desc.now) }
 {
-    let digits = digits_of(alloc, desc)?;
     out.extend_from_slice(word)?;
-    put_field(out, digits.as_bytes())?;
+    out.extend_from_slice(b"\t")?;
+    guide_model::put_descriptor(alloc, out, desc)?;
     out.extend_from_slice(b"\n")
 }
 

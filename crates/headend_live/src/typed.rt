@@ -1,7 +1,8 @@
 // What multiplexes and journals have by the types of their values.
-ghost use Rattle.std.specs.Prelude.{◌≤◌, IfSome};
+ghost use Rattle.std.specs.Prelude.{◌≤◌, ℕ, IfSome};
 ghost use Rattle.std.specs.List.{AllByRecursion};
 ghost use Rattle.guide_model.specs.Decoding.{IsKept};
+ghost use Rattle.guide_model.specs.Descriptors.{IsOfBytes};
 ghost use Rattle.mux_model.specs.declared.mux.MuxService.{MuxService as OwnService};
 ghost use Rattle.mux_model.specs.declared.mux.RemoteService.{RemoteService as Remote};
 ghost use Rattle.mux_model.specs.declared.mux.Other.{Other as OtherStream};
@@ -14,7 +15,7 @@ ghost use Rattle.journal_air.specs.Laws.{HasTypedEdits};
 ghost use Rattle.journal_air.specs.JournalScreenShown.{IsAsRead};
 
 use desk_core::Desk;
-use guide_model::{Genre, Txt};
+use guide_model::{Genre, RawDesc, Txt};
 use journal_model::{Edit, Entry, Item, RawRating, Step};
 use mux_model::{Mux, MuxService, Other, RemoteService};
 
@@ -111,6 +112,29 @@ fn genres_are_typed(genres: &[Genre])
     }
 }
 
+fn are_bytes(numbers: &[u8])
+    ensures { AllByRecursion (λ (b : ℕ). b ≤ 255) numbers.now }
+{
+    for number in numbers {
+        is_byte(*number);
+    }
+}
+
+fn descriptor_is_typed(desc: &RawDesc)
+    ensures { IsOfBytes desc.now }
+{
+    is_byte(desc.tag);
+    are_bytes(desc.body.as_slice());
+}
+
+fn descriptors_are_typed(descs: &[RawDesc])
+    ensures { AllByRecursion IsOfBytes descs.now }
+{
+    for desc in descs {
+        descriptor_is_typed(desc);
+    }
+}
+
 fn rating_is_typed(rating: &Option<RawRating>)
     ensures value { IfSome rating.now (λ rating. rating.value ≤ 255) }
     ensures country { IfSome rating.now (λ rating. IsKept rating.country) }
@@ -127,6 +151,7 @@ fn item_is_typed(item: &Item)
     is_word(item.id);
     rating_is_typed(&item.rating);
     genres_are_typed(item.genres.as_slice());
+    descriptors_are_typed(item.descriptors.as_slice());
     is_kept(&item.language);
     is_kept(&item.name);
     is_kept(&item.short);

@@ -5,6 +5,7 @@ pub mod CleanLines
 mod Unquoted
 mod PlainParts
 pub mod Numerals
+pub mod GroupFacts
 pub mod Steps
 pub mod LastLines
 pub mod LineReads

@@ -1,5 +1,6 @@
 pub mod Fields
 pub mod Numbers
+pub mod Groups
 pub mod Lines
 pub mod Going
 pub mod Records

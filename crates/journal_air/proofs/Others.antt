@@ -4,7 +4,7 @@ use Rattle.std.specs.Prelude.{not, filter, if◌then◌else◌}
 use Rattle.std.specs.List.{AllByRecursion}
 use Rattle.std.proofs.lemmas.Bool.Decides.{nat_tests}
 use Rattle.std.proofs.lemmas.List.Elements.{All-nil}
-use Rattle.descriptors.specs.Descriptors.{FitsDescriptor}
+use Rattle.guide_model.specs.Descriptors.{FitsDescriptor}
 use Rattle.si_lists.proofs.Lists.{all_map, all_to_map}
 use Rattle.si_lists.proofs.Filters.{all_stay}
 use Rattle.guide_model.specs.declared.shown.Shown.TheVariants.{Text}

@@ -20,7 +20,7 @@ mux = mux_of 40 (codes "Demo") 2 1 (record { 0 = 0 }) 200 (news ∷ [])
 
 -- an event of half an hour, from a second of the day on; its day is the first, or a later one
 abbrev event : ℕ → ℕ → Event
-event id start = record { id = id; start = record { 0 = start }; seconds = 1800; language = codes "eng"; name = codes "News"; short = []; extended = []; rating = None; genres = [] }
+event id start = record { id = id; start = record { 0 = start }; seconds = 1800; language = codes "eng"; name = codes "News"; short = []; extended = []; rating = None; genres = []; descriptors = [] }
 
 abbrev shown : ℕ → ℕ → ScreenEvent
 shown id start = record { id = id; start = record { 0 = start }; seconds = 1800; language = codes "eng"; name = Text (codes "News"); short = Text []; extended = Text []; rating = None; genres = []; descriptors = [] }

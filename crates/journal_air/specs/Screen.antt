@@ -1,4 +1,4 @@
--- What a receiver shows of a publication. The further descriptors are those of the multiplex; events and other streams have none.
+-- What a receiver shows of a publication. The further descriptors are those of the multiplex and of its events; other streams have none.
 use Rattle.std.specs.Prelude.{ℕ, ◌+◌, ◌*◌, Bool, ◌&&◌, nat_le, nat_lt, List, [], ◌∷◌, map, filter, Option, Some, None}
 use Rattle.guide_model.specs.declared.shown.Shown.TheVariants.{Text}
 use Rattle.guide_model.specs.declared.event.Event.{Event}

@@ -4,6 +4,7 @@ use Rattle.std.specs.List.{All, AllByRecursion}
 use Rattle.guide_model.specs.Decoding.{IsKept}
 use Rattle.si_time.specs.Readings.{has_shape}
 use Rattle.guide_model.specs.declared.event.Genre.{Genre}
+use Rattle.guide_model.specs.Descriptors.{FitsDescriptor, IsOfBytes}
 use Rattle.journal_model.specs.declared.edit.DayText.{DayText}
 use Rattle.journal_model.specs.declared.edit.RawRating.{RawRating}
 use Rattle.journal_model.specs.declared.edit.Item.{Item}
@@ -17,6 +18,7 @@ pub record IsShapedItem (item : Item) : Type 0 where
   pub start : has_shape (codes "dddd-dd-ddTdd:dd:ddZ") item.start.0 ≡ true
   pub length : has_shape (codes "dd:dd:dd") item.length.0 ≡ true
   pub country : IfSome item.rating (λ rating. rating.country ≢ [])
+  pub descriptors : AllByRecursion FitsDescriptor item.descriptors
 
 -- a day as lines can give it
 pub record IsShapedDay (date : DayText) (listed : List Item) : Type 0 where
@@ -44,6 +46,7 @@ pub record HasItemNumbers (item : Item) : Type 0 where
   pub id : item.id ≤ 65535
   pub rating : IfSome item.rating (λ rating. rating.value ≤ 255)
   pub genres : AllByRecursion HasGenreNumbers item.genres
+  pub descriptors : AllByRecursion IsOfBytes item.descriptors
 
 abbrev pub HasNumbers : Edit → Type 0
 HasNumbers (Put service item) = (service ≤ 65535) × HasItemNumbers item

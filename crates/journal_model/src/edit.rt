@@ -1,5 +1,5 @@
 // What a feed asks for.
-use guide_model::{Genres, Txt};
+use guide_model::{Genres, RawDescs, Txt};
 use si_base::Items;
 
 /// A start_time as it is given (EN 300 468, 5.2.4): the text `YYYY-MM-DDThh:mm:ssZ`. Any bytes are a stamp;
@@ -26,7 +26,7 @@ pub struct RawRating {
 
 /// An event as a feed gives it (EN 300 468, 5.2.4): its event_id, start and duration, the language code of its texts
 /// (6.2.37), its name and short text (short_event, 6.2.37), its extended text (6.2.15), its parental rating where it has
-/// one, and its genres (content, 6.2.9). Nothing but the id is held to its limits yet.
+/// one, its genres (content, 6.2.9), and its further descriptors. Nothing but the id is held to its limits yet.
 #[derive(Drop)]
 pub struct Item {
     pub id: u16,
@@ -38,6 +38,7 @@ pub struct Item {
     pub extended: Txt,
     pub rating: Option<RawRating>,
     pub genres: Genres,
+    pub descriptors: RawDescs,
 }
 
 /// The items of a day, in the order in which they are given.

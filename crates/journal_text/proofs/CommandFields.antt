@@ -8,13 +8,16 @@ use Rattle.std.proofs.lemmas.Bool.{and_parts}
 use Rattle.guide_model.specs.Decoding.{IsKept}
 use Rattle.input_lines.specs.Numbers.{is_digit}
 use Rattle.guide_model.specs.declared.event.Genre.{Genre}
+use Rattle.guide_model.specs.declared.descriptor.RawDesc.{RawDesc}
+use Rattle.guide_model.specs.Descriptors.{IsOfBytes, descriptors_text}
+use Rattle.guide_model.proofs.HexTexts.{texts_all}
 use Rattle.journal_model.specs.declared.edit.RawRating.{RawRating}
 use Rattle.journal_model.specs.declared.edit.Item.{Item}
 use Rattle.journal_model.specs.declared.edit.Edit.{Edit}
 use Rattle.journal_model.specs.declared.edit.Edit.TheVariants.{Put, Withdraw, Clear, Name, Day}
 use Rattle.journal_model.specs.Edits.{IsShapedItem, IsShaped, HasGenreNumbers, IsTypedItem, IsTypedEdit}
 use Rattle.guide_model.specs.Genres.{genre_text, genres_text}
-use Rattle.script_lines.specs.EditFields.{rating_field, item_fields, edit_fields, country_field}
+use Rattle.script_lines.specs.EditFields.{rating_field, further_fields, item_fields, edit_fields, country_field}
 use Rattle.journal_model.specs.declared.step.Step.{Step}
 use Rattle.journal_model.specs.declared.step.Step.TheVariants.{Edit as edit, Tick, Publish, Swap}
 use Rattle.journal_model.specs.Steps.{IsStepWithin, IsTypedStep}
@@ -56,10 +59,14 @@ country_kept : (r : Option RawRating) → IfSome r (λ x. IsKept x.country) → 
 country_kept None h = written_kept [] refl
 country_kept (Some r) h = h
 
+further_kept : (ds : List RawDesc) → AllByRecursion IsOfBytes ds → AllByRecursion IsKept (further_fields ds)
+further_kept [] h = tt
+further_kept (d ∷ ds) h = (printing_kept (descriptors_text (d ∷ ds)) (texts_all is_printing (d ∷ ds) refl refl h), tt)
+
 pub item_kept : (item : Item) → IsShapedItem item → IsTypedItem item → AllByRecursion IsKept (item_fields item)
 item_kept item h t =
     let k = t.numbers in
-    (small_kept item.id 65535 k.id (omega arith), (written_kept item.start.0 (shape_written (codes "dddd-dd-ddTdd:dd:ddZ") item.start.0 refl h.start), (written_kept item.length.0 (shape_written (codes "dd:dd:dd") item.length.0 refl h.length), (t.language, (t.name, (t.short, (t.extended, (country_kept item.rating t.country, (value_kept item.rating k.rating, (genres_kept item.genres k.genres, tt))))))))))
+    (small_kept item.id 65535 k.id (omega arith), (written_kept item.start.0 (shape_written (codes "dddd-dd-ddTdd:dd:ddZ") item.start.0 refl h.start), (written_kept item.length.0 (shape_written (codes "dd:dd:dd") item.length.0 refl h.length), (t.language, (t.name, (t.short, (t.extended, (country_kept item.rating t.country, (value_kept item.rating k.rating, (genres_kept item.genres k.genres, further_kept item.descriptors k.descriptors))))))))))
 
 word_kept : (word : List ℕ) → list_all is_written word ≡ true → IsKept word
 word_kept = written_kept

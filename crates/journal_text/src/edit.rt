@@ -1,11 +1,11 @@
 // The lines of an edit.
 ghost use Rattle.std.specs.Prelude.{◌≡◌, ◌++◌, ◌∷◌, OnOk, IfOk, codes, decimal, flat_map};
 ghost use Rattle.guide_model.specs.Genres.{genres_text};
-ghost use Rattle.script_lines.specs.EditFields.{country_field, edit_fields, item_fields, rating_field};
+ghost use Rattle.script_lines.specs.EditFields.{country_field, edit_fields, further_fields, item_fields, rating_field};
 ghost use Rattle.journal_text.specs.Lines.{and_field, and_fields, item_text, items_of, IsOpenFor};
 
 use crate::line::LineWriter;
-use guide_model::{Genre, put_genres};
+use guide_model::{Genre, RawDesc, put_descriptors, put_genres};
 use journal_model::{Edit, Item, RawRating};
 use std::alloc::{AllocError, Global};
 
@@ -42,6 +42,19 @@ fn add_value(
     }
 }
 
+// Adds the text of further descriptors, where there are some.
+fn add_further(alloc: Global, row: &mut LineWriter, descs: &[RawDesc]) -> Result<(), AllocError>
+    requires { IsOpenFor 0 row.old }
+    ensures { OnOk result (row.new ≡ and_fields row.old (further_fields descs.now)) }
+{
+    if descs.is_empty() {
+        return Ok(());
+    }
+    let mut text = Vec::new(alloc);
+    put_descriptors(alloc, &mut text, descs)?;
+    row.field(&text)
+}
+
 // Adds the fields of an item.
 fn add_item(alloc: Global, row: &mut LineWriter, item: &Item) -> Result<(), AllocError>
     requires { IsOpenFor 12 row.old }
@@ -57,7 +70,8 @@ fn add_item(alloc: Global, row: &mut LineWriter, item: &Item) -> Result<(), Allo
     row.field(country_of(&item.rating))?;
     add_value(alloc, row, &item.rating)?;
     let genres = text_of_genres(alloc, item.genres.as_slice())?;
-    row.field(&genres)
+    row.field(&genres)?;
+    add_further(alloc, row, item.descriptors.as_slice())
 }
 
 // Appends the line of an item of a day.

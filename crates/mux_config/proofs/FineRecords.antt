@@ -2,11 +2,12 @@
 use Rattle.std.specs.Prelude.{◌≡◌, ◌≢◌, ℕ, ◌≤◌, false, List, [], length, map, Option, Some, None}
 use Rattle.std.specs.List.{AllByRecursion, list_any}
 use Rattle.guide_model.specs.declared.stream.Component.{Component}
+use Rattle.guide_model.specs.Descriptors.{AreSoundDescriptors}
 use Rattle.mux_model.specs.declared.mux.MuxService.{MuxService}
 use Rattle.mux_model.specs.declared.mux.RemoteService.{RemoteService}
 use Rattle.mux_model.specs.declared.mux.Other.{Other}
 use Rattle.mux_model.specs.Order.{DoCome, all_placed}
-use Rattle.mux_model.specs.Rooms.{AreSoundDescriptors, made_of_component}
+use Rattle.mux_model.specs.Rooms.{made_of_component}
 use Rattle.mux_model.specs.Sound.{AreDifferent, DoAscend, AreOfRegions, comes_before, has_lower_id, has_stream_ids, pmt_pids}
 use Rattle.mux_lines.specs.declared.record.Place.TheVariants.{InComponent}
 use Rattle.mux_lines.specs.declared.record.Numbered.{Numbered}

@@ -11,7 +11,8 @@ use Rattle.si_lists.proofs.Lists.{all_append, all_map, all_push, all_two}
 use Rattle.si_lists.proofs.Truths.{first_true, second_true}
 use Rattle.guide_model.specs.declared.descriptor.RawDesc.{RawDesc}
 use Rattle.guide_model.specs.declared.stream.Component.{Component}
-use Rattle.mux_model.specs.Rooms.{AreSoundDescriptors, IsSoundDescriptor, made_of_component}
+use Rattle.guide_model.specs.Descriptors.{AreSoundDescriptors, IsSoundDescriptor}
+use Rattle.mux_model.specs.Rooms.{made_of_component}
 use Rattle.mux_lines.specs.Further.{made_in}
 use Rattle.mux_lines.specs.declared.record.Place.{Place}
 use Rattle.mux_lines.specs.declared.record.Place.TheVariants.{InNetwork, InStream, InService, InProgram, InComponent}

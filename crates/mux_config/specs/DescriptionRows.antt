@@ -7,7 +7,7 @@ use Rattle.guide_model.specs.declared.stream.Component.{Component}
 use Rattle.si_causes.specs.Text.{AtEnd, PastLimit}
 use Rattle.input_lines.specs.Ahead.{Came, Ends, Found, Row, Stopped, TooLong, ahead_in}
 use Rattle.si_time.specs.Readings as times
-use Rattle.mux_lines.specs.Groups.{groups_compute}
+use Rattle.input_lines.specs.Groups.{groups_compute}
 use Rattle.mux_config.specs.declared.fault.Word.TheVariants.{Network, Stream, Service, End}
 use Rattle.mux_config.specs.declared.fault.MuxFault.TheVariants.{Line, Range, Twice, Missing}
 use Rattle.mux_model.specs.declared.mux.MuxService.{MuxService}

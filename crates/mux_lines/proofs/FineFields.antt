@@ -13,8 +13,8 @@ use Rattle.input_lines.specs.Numbers.{in_range, is_word, numeral_of}
 use Rattle.input_lines.proofs.CleanLines.{is_line_back, line_kept}
 use Rattle.guide_model.specs.declared.stream.Component.{Component}
 use Rattle.guide_model.specs.declared.descriptor.RawDesc.{RawDesc}
-use Rattle.guide_model.specs.Descriptors.{descriptors_size}
-use Rattle.mux_model.specs.Rooms.{AreSoundDescriptors, component_size, is_among, made_of_service}
+use Rattle.guide_model.specs.Descriptors.{descriptors_size, AreSoundDescriptors, is_among, is_free}
+use Rattle.mux_model.specs.Rooms.{component_size, made_of_service}
 use Rattle.mux_model.specs.declared.mux.MuxService.{MuxService}
 use Rattle.mux_model.specs.declared.mux.RemoteService.{RemoteService}
 use Rattle.mux_model.specs.Sound.{AreDifferent, Between, HasSoundLanguage, IsSoundCable, IsSoundComponent, IsSoundRemote, IsSoundService, farthest}
@@ -26,9 +26,9 @@ use Rattle.mux_lines.specs.declared.record.Record.TheVariants.{Network, Stream, 
 use Rattle.mux_lines.specs.declared.record.RecordFound.{RecordFound}
 use Rattle.mux_lines.specs.declared.record.RecordFound.TheVariants.{NoRecord, Is}
 use Rattle.mux_lines.specs.Found.{found_with, within}
-use Rattle.mux_lines.specs.Groups.{descriptors_in}
-use Rattle.mux_lines.specs.Further.{are_free, component_place, further_of, in_loop, is_free, made_in, of_component, of_id, program_place, service_place}
-use Rattle.mux_lines.proofs.GroupFacts.{Fits, each_fits}
+use Rattle.input_lines.specs.Groups.{descriptors_in}
+use Rattle.mux_lines.specs.Further.{are_free, component_place, further_of, in_loop, made_in, of_component, of_id, program_place, service_place}
+use Rattle.input_lines.proofs.GroupFacts.{IsRead, each_read}
 use Rattle.mux_lines.specs.Fields.{are_ids, cabled_in, is_remote_in_range, other_by, other_in, remote_by, remote_in, cable_with, found_fields, found_in, found_line, is_language, is_letter, is_service_in_range, language_of, network_in, stream_in, cable_in, numbers_in, service_of, service_in, bare_service, part_in, is_capital, country_of, side_of, offset_with, offset_in, start_with, start_in, quota_in, rate_in}
 use Rattle.mux_lines.specs.Fine.{IsFine, IsFineFound}
 
@@ -233,16 +233,16 @@ not_true : (b : Bool) → not b ≡ true → b ≡ false
 not_true true e = cc e
 not_true false e = refl
 
-sound_further : (place : Place) (ds : List RawDesc) → AllByRecursion Fits ds → are_free place ds ≡ true → AreSoundDescriptors (made_in place) ds
+sound_further : (place : Place) (ds : List RawDesc) → AllByRecursion IsRead ds → are_free place ds ≡ true → AreSoundDescriptors (made_in place) ds
 sound_further place [] fits e = tt
 sound_further place (d ∷ ds) fits e =
-    let here = first_true (is_free place d.tag) (are_free place ds) e in (
+    let here = first_true (is_free (made_in place) d.tag) (are_free place ds) e in (
       record {
         tag = bounds 2 254 d.tag (first_true (in_range 2 254 d.tag) (not (is_among (made_in place) d.tag)) here);
         free = not_true (is_among (made_in place) d.tag) (second_true (in_range 2 254 d.tag) (not (is_among (made_in place) d.tag)) here);
-        body = fits.0;
+        body = omega (arith, fits.0.0);
       },
-      sound_further place ds fits.1 (second_true (is_free place d.tag) (are_free place ds) e),
+      sound_further place ds fits.1 (second_true (is_free (made_in place) d.tag) (are_free place ds) e),
     )
 
 fine_further : (place : Option Place) (field : List ℕ) → IsFineFound (further_of place (descriptors_in field))
@@ -251,7 +251,7 @@ fine_further place field = go place (descriptors_in field) refl
     go : (place : Option Place) (descs : Option (List RawDesc)) → descriptors_in field ≡ descs → IsFineFound (further_of place descs)
     go place None e = tt
     go None (Some ds) e = tt
-    go (Some place) (Some ds) e = fine_within (are_free place ds) (Further place ds) (sound_further place ds (each_fits (slice_split (λ b. b == 32) field) ds e))
+    go (Some place) (Some ds) e = fine_within (are_free place ds) (Further place ds) (sound_further place ds (each_read (slice_split (λ b. b == 32) field) ds e))
 
 fine_loop : (loop field : List ℕ) → IsFineFound (in_loop loop field)
 fine_loop loop field =

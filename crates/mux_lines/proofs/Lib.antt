@@ -1,3 +1,2 @@
 pub mod EightFields
-pub mod GroupFacts
 pub mod FineFields

@@ -9,7 +9,7 @@ use Rattle.mux_lines.specs.declared.record.Record.{Record}
 use Rattle.mux_lines.specs.declared.record.Record.TheVariants.{Network, Stream, Delivery, Service, Part, Start, Quota, Rate, Local, Elsewhere, Remote, Further, End}
 use Rattle.mux_lines.specs.declared.record.RecordFound.{RecordFound}
 use Rattle.mux_lines.specs.declared.record.RecordFound.TheVariants.{Is}
-use Rattle.mux_model.specs.Rooms.{AreSoundDescriptors}
+use Rattle.guide_model.specs.Descriptors.{AreSoundDescriptors}
 use Rattle.mux_lines.specs.Further.{made_in}
 use Rattle.mux_model.specs.Sound.{Between, IsSoundCable, IsSoundComponent, IsSoundOffset, IsSoundRemote, IsSoundService, HasSoundCable}
 

@@ -1,16 +1,17 @@
 -- Lines of further descriptors.
-use Rattle.std.specs.Prelude.{ℕ, Bool, not, ◌&&◌, List, [], Option, Some, None, if◌then◌else◌, codes}
+use Rattle.std.specs.Prelude.{ℕ, Bool, ◌&&◌, List, [], Option, Some, None, if◌then◌else◌, codes}
 use Rattle.std.specs.List.{list_all}
 use Rattle.input_lines.specs.Numbers.{is_word, in_range}
 use Rattle.guide_model.specs.declared.descriptor.RawDesc.{RawDesc}
-use Rattle.mux_model.specs.Rooms.{is_among, made_of_network, made_of_service, made_of_stream}
+use Rattle.guide_model.specs.Descriptors.{is_free}
+use Rattle.mux_model.specs.Rooms.{made_of_network, made_of_service, made_of_stream}
 use Rattle.mux_lines.specs.declared.record.Place.{Place}
 use Rattle.mux_lines.specs.declared.record.Place.TheVariants.{InNetwork, InStream, InService, InProgram, InComponent}
 use Rattle.mux_lines.specs.declared.record.Record.TheVariants.{Further}
 use Rattle.mux_lines.specs.declared.record.RecordFound.{RecordFound}
 use Rattle.mux_lines.specs.declared.record.RecordFound.TheVariants.{NoRecord, OutOfRange}
 use Rattle.mux_lines.specs.Found.{spelled, within}
-use Rattle.mux_lines.specs.Groups.{descriptors_in}
+use Rattle.input_lines.specs.Groups.{descriptors_in}
 
 -- the tags of the descriptors that are always made there
 abbrev pub made_in : Place → List ℕ
@@ -20,12 +21,8 @@ made_in (InService id) = made_of_service
 made_in (InProgram id) = []
 made_in (InComponent id pid) = []
 
--- tags 0, 1 and 255 are none
-abbrev pub is_free : Place → ℕ → Bool
-is_free place tag = in_range 2 254 tag && not (is_among (made_in place) tag)
-
 abbrev pub are_free : Place → List RawDesc → Bool
-are_free place descs = list_all (λ (d : RawDesc). is_free place d.tag) descs
+are_free place descs = list_all (λ (d : RawDesc). is_free (made_in place) d.tag) descs
 
 -- the descriptors of a place, where both are some
 abbrev pub further_of : Option Place → Option (List RawDesc) → RecordFound

@@ -1,5 +1,4 @@
 pub mod Found
-pub mod Groups
 pub mod Further
 pub mod Fields
 pub mod Fine

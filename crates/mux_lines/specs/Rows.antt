@@ -6,7 +6,7 @@ use Rattle.mux_lines.specs.declared.record.Place.TheVariants.{InNetwork, InServi
 use Rattle.mux_lines.specs.declared.record.Record.TheVariants.{Further}
 use Rattle.mux_lines.specs.declared.record.RecordFound.TheVariants.{NoRecord, OutOfRange, Is}
 use Rattle.mux_lines.specs.Fields.{found_line}
-use Rattle.mux_lines.specs.Groups.{descriptors_in, groups_compute}
+use Rattle.input_lines.specs.Groups.{descriptors_in, groups_compute}
 
 abbrev desc : ℕ → List ℕ → RawDesc
 desc tag body = record { tag = tag; body = body }

@@ -1,15 +1,14 @@
 // Lines of further descriptors.
 ghost use Rattle.std.specs.Prelude.{◌≡◌, IfOk};
-ghost use Rattle.mux_model.specs.Rooms.{is_among};
-ghost use Rattle.mux_lines.specs.Further.{are_free, component_place, further_of, in_loop, is_free, made_in, of_component, of_id, program_place, service_place};
+ghost use Rattle.guide_model.specs.Descriptors.{is_among, is_free};
+ghost use Rattle.mux_lines.specs.Further.{are_free, component_place, further_of, in_loop, made_in, of_component, of_id, program_place, service_place};
 ghost use Rattle.mux_lines.specs.Found.{spelled};
-ghost use Rattle.mux_lines.specs.Groups.{descriptors_in};
+ghost use Rattle.input_lines.specs.Groups.{descriptors_in};
 
-use crate::groups::descriptors_in;
 use crate::numbers::short;
 use crate::record::{Place, Record, RecordFound};
 use guide_model::{RawDesc, RawDescs, Txt};
-use input_lines::{is_word, numeral};
+use input_lines::{descriptors_in, is_word, numeral};
 use std::alloc::{AllocError, Global};
 
 // Whether a descriptor with this tag is always made there.
@@ -26,7 +25,7 @@ fn is_made(place: Place, tag: u8) -> bool
 }
 
 fn is_free(place: Place, tag: u8) -> bool
-    ensures { result ≡ is_free place tag }
+    ensures { result ≡ is_free (made_in place) tag }
 {
     2 <= tag && tag <= 254 && !is_made(place, tag)
 }
@@ -36,7 +35,7 @@ fn are_free(place: Place, descriptors: &[RawDesc]) -> bool
 {
     descriptors.iter().all(
         |d: &RawDesc| -> bool
-            ensures { result ≡ is_free place d.now.tag }
+            ensures { result ≡ is_free (made_in place) d.now.tag }
         { is_free(place, d.tag) },
     )
 }

@@ -8,7 +8,6 @@
 #![tactic(auto)]
 
 mod further;
-mod groups;
 mod laws;
 mod numbers;
 mod record;

@@ -1,10 +1,8 @@
 -- Further descriptors and the room for them: a section of the PMT, of the NIT and of the SDT has at most 1,024 bytes, of which 12 are its
 -- header and its CRC (ISO/IEC 13818-1, 2.4.4.8; EN 300 468, 5.2.1 and 5.2.3).
-use Rattle.std.specs.Prelude.{◌≡◌, ℕ, ◌+◌, ◌*◌, ◌≤◌, Bool, false, ◌==◌, List, [], ◌∷◌, length, sum_by, Option, Some, None}
-use Rattle.std.specs.List.{AllByRecursion, list_any}
+use Rattle.std.specs.Prelude.{ℕ, ◌+◌, ◌*◌, List, [], ◌∷◌, length, sum_by, Option, Some, None}
 use Rattle.guide_model.specs.Coding.{coded_size}
 use Rattle.guide_model.specs.Descriptors.{descriptors_size}
-use Rattle.guide_model.specs.declared.descriptor.RawDesc.{RawDesc}
 use Rattle.guide_model.specs.declared.stream.Cable.{Cable}
 use Rattle.guide_model.specs.declared.stream.Component.{Component}
 use Rattle.mux_model.specs.declared.mux.MuxService.{MuxService}
@@ -12,9 +10,6 @@ use Rattle.mux_model.specs.declared.mux.Other.{Other}
 use Rattle.mux_model.specs.declared.mux.Mux.{Mux}
 
 -- ---- descriptors that are made, which no further one is
-
-abbrev pub is_among : List ℕ → ℕ → Bool
-is_among tags tag = list_any (λ t. t == tag) tags
 
 -- network_name_descriptor; service_list_descriptor and cable_delivery_system_descriptor; service_descriptor
 abbrev pub made_of_network : List ℕ
@@ -30,15 +25,6 @@ made_of_service = 0x48 ∷ []
 abbrev pub made_of_component : Option (List ℕ) → List ℕ
 made_of_component None = []
 made_of_component (Some language) = 0x0A ∷ []
-
--- A further descriptor where these are made: its tag is one (0, 1 and 255 are none) and not theirs, and its body fits its length.
-pub record IsSoundDescriptor (made : List ℕ) (d : RawDesc) : Type 0 where
-  pub tag : (2 ≤ d.tag) × (d.tag ≤ 254)
-  pub free : is_among made d.tag ≡ false
-  pub body : length d.body ≤ 255
-
-abbrev pub AreSoundDescriptors : List ℕ → List RawDesc → Type 0
-AreSoundDescriptors made descs = AllByRecursion (IsSoundDescriptor made) descs
 
 -- ---- room in the PMT
 

@@ -11,8 +11,8 @@ use Rattle.mux_model.specs.declared.mux.RemoteService.{RemoteService}
 use Rattle.mux_model.specs.declared.mux.Other.{Other}
 use Rattle.mux_model.specs.declared.mux.Mux.{Mux}
 use Rattle.mux_model.specs.Order.{DoCome}
-use Rattle.mux_model.specs.Rooms.{AreSoundDescriptors, made_of_component, made_of_network, made_of_service, made_of_stream, network_size, program_size}
-use Rattle.guide_model.specs.Descriptors.{descriptors_size}
+use Rattle.mux_model.specs.Rooms.{made_of_component, made_of_network, made_of_service, made_of_stream, network_size, program_size}
+use Rattle.guide_model.specs.Descriptors.{descriptors_size, AreSoundDescriptors}
 
 abbrev pub Between : ℕ → ℕ → ℕ → Type 0
 Between low high n = (low ≤ n) × (n ≤ high)

@@ -1,4 +1,4 @@
--- An event within its limits, as a value of its type, has an entry of at most 1,338 bytes.
+-- An event within its limits, as a value of its type, has an entry of at most 1,578 bytes.
 use Rattle.std.proofs.Common.{◌≡◌, ℕ, ◌≤◌, List, [], ◌∷◌, ◌++◌, length, arith, length-append}
 use Rattle.std.specs.Prelude.{Option, Some, None, IsUtf8}
 use Rattle.std.specs.List.{AllByRecursion}
@@ -8,9 +8,11 @@ use Rattle.guide_model.specs.declared.event.Event.{Event}
 use Rattle.guide_model.specs.declared.event.Genre.{Genre}
 use Rattle.guide_model.specs.declared.event.Rating.{Rating}
 use Rattle.guide_model.specs.declared.guide.ServiceGuide.{ServiceGuide}
+use Rattle.descriptors.specs.Descriptors.{descriptors_bytes}
 use Rattle.descriptors.specs.ShortEvent.{short_event}
 use Rattle.descriptors.specs.EventDescriptors.{extended_events, content_of, rating_of, entry_size}
 use Rattle.descriptors.proofs.EventEntries.{length-parental_rating_body}
+use Rattle.descriptors.proofs.Loops.{length-descriptors_bytes}
 use Rattle.descriptors.proofs.Pieces.{length-coded_text, length-extended_events, length-content_of, extended_size-small}
 use Rattle.guide_limits.specs.Limits.{IsRatingWithin, IsEventWithin, IsServiceWithin}
 use Rattle.table_bodies.specs.Eit.{IsTyped}
@@ -31,7 +33,7 @@ rating_size : (rating : Option Rating) → IsRatingWithin rating → length (rat
 rating_size None within = omega arith
 rating_size (Some r) within = omega (arith, length-parental_rating_body (r ∷ []) (within.0, tt))
 
-entry_small : (e : Event) → IsEventWithin e → IsUtf8 e.extended → entry_size e ≤ 1338
+entry_small : (e : Event) → IsEventWithin e → IsUtf8 e.extended → entry_size e ≤ 1578
 entry_small e within utf8 =
     let short = short_event (record { language = e.language; name = Text e.name; short = Text e.short }) in
     let extended = extended_events e.language e.extended in
@@ -51,6 +53,9 @@ entry_small e within utf8 =
       length-append short extended,
       length-append ((short ++ extended) ++ content) rating,
       length-append (short ++ extended) content,
+      length-append (short ++ extended ++ content ++ rating) (descriptors_bytes e.descriptors),
+      length-descriptors_bytes e.descriptors,
+      within.limits.room,
     )
 
 entries_small : (es : List Event) → AllByRecursion IsEventWithin es → AllByRecursion IsTyped es → AreSmallEntries es

@@ -31,24 +31,24 @@ all_codable es within = All-from_recursion IsCodable es (all_map IsEventWithin I
 pub all_limits : (es : List Event) → AllByRecursion IsEventWithin es → All IsWithinLimits es
 all_limits es within = All-from_recursion IsWithinLimits es (all_map IsEventWithin IsWithinLimits (λ e w. w.limits) es within)
 
-sizes_of : (es : List Event) → AllByRecursion (λ (e : EventAt). e.size ≤ 1338) (map at_of es) → AreSmallEntries es
+sizes_of : (es : List Event) → AllByRecursion (λ (e : EventAt). e.size ≤ 1578) (map at_of es) → AreSmallEntries es
 sizes_of [] h = tt
 sizes_of (e ∷ es) h = (h.0, sizes_of es h.1)
 
-pub small_entries : (es : List Event) (at : List EventAt) → at ≡ map at_of es → All (λ (e : EventAt). e.size ≤ 1338) at → AreSmallEntries es
+pub small_entries : (es : List Event) (at : List EventAt) → at ≡ map at_of es → All (λ (e : EventAt). e.size ≤ 1578) at → AreSmallEntries es
 small_entries es at is small =
-    sizes_of es (recursion_from_All (λ (e : EventAt). e.size ≤ 1338) (map at_of es) (subst (λ (l : List EventAt). All (λ (e : EventAt). e.size ≤ 1338) l) is small))
+    sizes_of es (recursion_from_All (λ (e : EventAt). e.size ≤ 1578) (map at_of es) (subst (λ (l : List EventAt). All (λ (e : EventAt). e.size ≤ 1578) l) is small))
 
-pub placed : (es : List Event) (at : List EventAt) → at ≡ map at_of es → AreWithin es → All (λ (e : EventAt). e.size ≤ 1338) at → CanBePlaced at
+pub placed : (es : List Event) (at : List EventAt) → at ≡ map at_of es → AreWithin es → All (λ (e : EventAt). e.size ≤ 1578) at → CanBePlaced at
 placed es at is within small = subst CanBePlaced (sym is) (events_can_be_placed es within (small_entries es at is small))
 
 -- the same of lists that are read from memory
 pub places_in : (es slice : List Event) (items at : List EventAt) → at ≡ items → items ≡ map at_of slice → slice ≡ es → at ≡ map at_of es
 places_in es slice items at read made is = read ∙ made ∙ ap (map at_of) is
 
-pub placed_in : (es slice : List Event) (items at : List EventAt) → at ≡ items → items ≡ map at_of slice → slice ≡ es → AreWithin es → All (λ (e : EventAt). e.size ≤ 1338) items → CanBePlaced at
+pub placed_in : (es slice : List Event) (items at : List EventAt) → at ≡ items → items ≡ map at_of slice → slice ≡ es → AreWithin es → All (λ (e : EventAt). e.size ≤ 1578) items → CanBePlaced at
 placed_in es slice items at read made is within small =
-    placed es at (places_in es slice items at read made is) within (subst (λ (l : List EventAt). All (λ (e : EventAt). e.size ≤ 1338) l) (sym read) small)
+    placed es at (places_in es slice items at read made is) within (subst (λ (l : List EventAt). All (λ (e : EventAt). e.size ≤ 1578) l) (sym read) small)
 
 pub codable_at : (place : Option ℕ) (es got : List Event) → got ≡ event_at place es → All IsCodable es → All IsCodable got
 codable_at None es got is all = subst (All IsCodable) (sym is) (All-from_recursion IsCodable [] tt)

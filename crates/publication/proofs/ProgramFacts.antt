@@ -12,13 +12,14 @@ use Rattle.guide_model.specs.declared.stream.Component.{Component}
 use Rattle.mux_model.specs.declared.mux.MuxService.{MuxService}
 use Rattle.mux_model.specs.declared.mux.Other.{Other}
 use Rattle.mux_model.specs.declared.mux.Mux.{Mux}
-use Rattle.guide_model.specs.Descriptors.{descriptors_size}
+use Rattle.guide_model.specs.Descriptors.{FitsDescriptor, descriptors_size, AreSoundDescriptors, IsSoundDescriptor, is_among}
 use Rattle.guide_model.specs.declared.descriptor.RawDesc.{RawDesc}
-use Rattle.mux_model.specs.Rooms.{AreSoundDescriptors, IsSoundDescriptor, cable_size as room_cable, component_size, is_among, language_size, made_of_component, made_of_network, made_of_stream, network_size, other_size, program_size}
+use Rattle.guide_model.proofs.SoundFacts.{bodies_fit, none_made}
+use Rattle.mux_model.specs.Rooms.{cable_size as room_cable, component_size, language_size, made_of_component, made_of_network, made_of_stream, network_size, other_size, program_size}
 use Rattle.mux_model.specs.Sound.{IsSound, IsSoundOther, remote_services, IsSoundService, IsSoundComponent, HasSoundCable, HasSoundLanguage}
 use Rattle.descriptors.proofs.Loops.{length-descriptors_bytes}
 use Rattle.descriptors.proofs.Pieces.{length-coded_text}
-use Rattle.descriptors.specs.Descriptors.{FitsDescriptor, descriptors_bytes}
+use Rattle.descriptors.specs.Descriptors.{descriptors_bytes}
 use Rattle.descriptors.specs.CableDelivery.{FitsCable}
 use Rattle.descriptors.proofs.ServiceEntries.{length-languages_body}
 use Rattle.table_bodies.specs.declared.pat.PatEntry.{PatEntry}
@@ -47,10 +48,6 @@ pub pat_short : (mux : Mux) → IsSound mux → length (pat_body (pat_of mux)) �
 pat_short mux sound = omega (arith, length-programs (pat_of mux), length-map mux.services program_entry, sound.count.1)
 
 -- ---- PMTs
-
--- each body of sound descriptors fits its length
-pub bodies_fit : (made : List ℕ) (ds : List RawDesc) → AreSoundDescriptors made ds → AllByRecursion FitsDescriptor ds
-bodies_fit made ds sound = all_map (IsSoundDescriptor made) FitsDescriptor (λ d fits. omega (arith, fits.body)) ds sound
 
 language_fits : (l : Option (List ℕ)) → HasSoundLanguage l → IfSome l (λ language. length language ≡ 3)
 language_fits None sound = tt
@@ -205,7 +202,4 @@ nit_fits mux sound = record {
 
 -- no further descriptor of the stream is a cable_delivery_system
 pub no_cable : (ds : List RawDesc) → AreSoundDescriptors made_of_stream ds → AllByRecursion (λ (d : RawDesc). (d.tag == 0x44) ≡ false) ds
-no_cable ds sound = all_map (IsSoundDescriptor made_of_stream) (λ (d : RawDesc). (d.tag == 0x44) ≡ false) (λ d is. second d.tag is.free) ds sound
-  where
-    second : (tag : ℕ) → is_among made_of_stream tag ≡ false → (tag == 0x44) ≡ false
-    second tag free = grind (arith, nat_tests)
+no_cable ds sound = none_made made_of_stream 0x44 refl ds sound

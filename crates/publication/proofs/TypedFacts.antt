@@ -4,6 +4,7 @@ use Rattle.std.specs.Prelude.{Option, Some, None, IfSome}
 use Rattle.std.specs.List.{AllByRecursion}
 use Rattle.si_lists.proofs.Lists.{all_map}
 use Rattle.guide_model.specs.Decoding.{IsKept}
+use Rattle.guide_model.specs.Descriptors.{IsOfBytes}
 use Rattle.guide_model.specs.declared.event.Event.{Event}
 use Rattle.guide_model.specs.declared.event.Rating.{Rating}
 use Rattle.guide_model.specs.declared.guide.ServiceGuide.{ServiceGuide}
@@ -29,10 +30,18 @@ pub record IsGiven (e : Event) : Type 0 where
   pub short : IsKept e.short
   pub extended : IsKept e.extended
   pub genres : AllByRecursion HasGenreNumbers e.genres
+  pub descriptors : AllByRecursion IsOfBytes e.descriptors
 
 item_given : (item : Item) → IsTypedItem item → IsGiven (event_of item)
 item_given item typed =
-    record { id = typed.numbers.id; name = typed.name; short = typed.short; extended = typed.extended; genres = typed.numbers.genres }
+    record {
+      id = typed.numbers.id;
+      name = typed.name;
+      short = typed.short;
+      extended = typed.extended;
+      genres = typed.numbers.genres;
+      descriptors = typed.numbers.descriptors;
+    }
 
 pub edit_gives : (edit : Edit) → IsTypedEdit edit → OfEachItem IsGiven edit
 edit_gives (Put service item) typed = item_given item typed.1

@@ -22,9 +22,9 @@ use Rattle.publication.specs.Eit.{Bearer}
 use Rattle.publication.specs.Present.{present_of}
 use Rattle.publication.specs.Schedule.{schedule_of}
 
--- each of these events has an entry of at most 1,338 bytes
+-- each of these events has an entry of at most 1,578 bytes
 abbrev pub AreSmallEntries : List Event → Type 0
-AreSmallEntries events = AllByRecursion (λ (event : Event). entry_size event ≤ 1338) events
+AreSmallEntries events = AllByRecursion (λ (event : Event). entry_size event ≤ 1578) events
 
 abbrev pub HasSmallEntries : Guide → Type 0
 HasSmallEntries guide = AllByRecursion (λ (s : ServiceGuide). AreSmallEntries s.events) guide.services

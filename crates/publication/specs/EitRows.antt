@@ -38,6 +38,7 @@ news id start seconds = record {
   extended = [];
   rating = None;
   genres = [];
+  descriptors = [];
 }
 
 abbrev with_events : List Event → ServiceGuide

@@ -1,7 +1,7 @@
 // What the definitions say, in other words.
 ghost use Rattle.publication.specs.EitLaws.{EventsAreRead, EventsNameTheStream, PresentIsFit, ReadEditsLeaveTypedEvents, ScheduleIsFit, TypedEntriesAreSmall};
 
-/// In a guide within its limits each event has an entry of at most 1,338 bytes.
+/// In a guide within its limits each event has an entry of at most 1,578 bytes.
 pub fn entries_are_small()
     ensures { TypedEntriesAreSmall }
 {}

@@ -25,7 +25,7 @@ const SCHEDULE: u8 = 0x50;
 /// days, up to the 64th, to `far`.
 ///
 /// The service is within its limits. It fails only for want of memory, and then the three may have a part of the tables. Each event's
-/// entry has at most 1,338 bytes, so that it fits a section (`small`). The work is linear in the events and in the bytes of the
+/// entry has at most 1,578 bytes, so that it fits a section (`small`). The work is linear in the events and in the bytes of the
 /// sections.
 pub fn put_service(
     alloc: Global,
@@ -66,7 +66,7 @@ pub fn put_service(
 /// `near`, and the schedule tables of the 64 days from the midnight before that moment on to `far`.
 ///
 /// The service is within its limits. It fails only for want of memory, and then the two may have a part of the tables. Each event's
-/// entry has at most 1,338 bytes (`small`). The work is linear in the events and in the bytes of the sections.
+/// entry has at most 1,578 bytes (`small`). The work is linear in the events and in the bytes of the sections.
 pub fn put_remote(
     alloc: Global,
     of: Stream,

@@ -83,7 +83,7 @@ pub(crate) fn eit_head(of: Stream, segment_last: u8, last_table: u8) -> EitHead
 fn event_at(event: &Event) -> EventAt
     requires { IsWithinLimits event.now }
     ensures event { result ≡ at_of event.now }
-    ensures small { result.size ≤ 1338 }
+    ensures small { result.size ≤ 1578 }
 {
     EventAt {
         start: event.start,
@@ -96,7 +96,7 @@ fn event_at(event: &Event) -> EventAt
 pub(crate) fn events_at(alloc: Global, events: &[Event]) -> Result<Vec<EventAt>, AllocError>
     requires { All IsWithinLimits events.now }
     ensures events { IfOk result (λ at. at.items ≡ map at_of events.now) }
-    ensures small { IfOk result (λ at. All (λ (e : EventShape). e.size ≤ 1338) at.items) }
+    ensures small { IfOk result (λ at. All (λ (e : EventShape). e.size ≤ 1578) at.items) }
 {
     let mut at = Vec::with_capacity(alloc, events.len())?;
     for event in events {

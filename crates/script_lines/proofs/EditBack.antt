@@ -7,10 +7,15 @@ use Rattle.std.proofs.lemmas.List.Folds.{list_all-append}
 use Rattle.std.proofs.lemmas.List.Elements.{recursion_from_All}
 use Rattle.si_lists.proofs.Filters.{list_all-more, split_front, split_last}
 use Rattle.guide_model.specs.declared.event.Genre.{Genre}
+use Rattle.guide_model.specs.declared.descriptor.RawDesc.{RawDesc}
+use Rattle.guide_model.specs.Descriptors.{descriptors_text, FitsDescriptor, IsOfBytes}
+use Rattle.guide_model.proofs.HexTexts.{texts_some}
+use Rattle.si_lists.proofs.Lists.{all_two}
+use Rattle.input_lines.proofs.GroupFacts.{IsRead, texts_in}
 use Rattle.input_lines.specs.Numbers.{is_digit}
 use Rattle.journal_model.specs.declared.edit.RawRating.{RawRating}
 use Rattle.journal_model.specs.declared.edit.Item.{Item}
-use Rattle.script_lines.specs.Items.{genre_of, genre_from, genres_of, all_some, rating_of, item_of, item_line}
+use Rattle.script_lines.specs.Items.{genre_of, genre_from, genres_of, all_some, rating_of, further_of, item_of, item_line}
 use Rattle.journal_model.specs.Edits.{IsShapedItem, IsShaped, HasGenreNumbers, HasItemNumbers, HasNumbers}
 use Rattle.journal_model.specs.declared.edit.Edit.{Edit}
 use Rattle.journal_model.specs.declared.edit.Edit.TheVariants.{Put, Withdraw, Clear, Name, Day}
@@ -21,8 +26,9 @@ use Rattle.input_lines.specs.Ahead.{Ahead, Row, Tail, Found, Came, and_then}
 use Rattle.script_lines.specs.Heads.{edit_head}
 use Rattle.script_lines.specs.Edits.{items_of, with_items, edit_from}
 use Rattle.guide_model.specs.Genres.{genre_text, genres_text}
-use Rattle.script_lines.specs.EditFields.{country_field, rating_field, item_fields, edit_fields, item_rows, HaveFields, EditsReadBack}
+use Rattle.script_lines.specs.EditFields.{country_field, rating_field, further_fields, item_fields, edit_fields, item_rows, HaveFields, EditsReadBack}
 use Rattle.script_lines.proofs.Genres.{genres_of_some}
+use Rattle.script_lines.proofs.EventFields.{further_of_one}
 use Rattle.script_lines.proofs.NumberBack.{small, digits_of, number_back}
 
 byte_digits : (n : ℕ) → n ≤ 255 → list_all is_digit (decimal n) ≡ true
@@ -95,10 +101,16 @@ rating_back : (r : Option RawRating) → IfSome r (λ x. x.country ≢ []) → I
 rating_back None h k = refl
 rating_back (Some r) h k = rating_some r.country r.value h k
 
+further_back : (ds : List RawDesc) → AllByRecursion FitsDescriptor ds → AllByRecursion IsOfBytes ds → further_of (further_fields ds) ≡ Some ds
+further_back [] fits bytes = refl
+further_back (d ∷ ds) fits bytes =
+    further_of_one (descriptors_text (d ∷ ds)) (texts_some d ds)
+    ∙ texts_in d ds (all_two FitsDescriptor IsOfBytes IsRead (λ d one two. (one, two)) (d ∷ ds) fits bytes)
+
 pub item_back : (item : Item) → IsShapedItem item → HasItemNumbers item → item_of (item_fields item) ≡ Some item
 unfolding item_of
 item_back item h k =
-    rw (number_back item.id 65535 k.id (omega arith), h.start, h.length, rating_back item.rating h.country k.rating, genres_back item.genres k.genres) refl
+    rw (number_back item.id 65535 k.id (omega arith), h.start, h.length, rating_back item.rating h.country k.rating, genres_back item.genres k.genres, further_back item.descriptors h.descriptors k.descriptors) refl
 
 pub item_line_back : (item : Item) → IsShapedItem item → HasItemNumbers item → item_line (codes "item" ∷ item_fields item) ≡ Some item
 unfolding item_line

@@ -8,6 +8,9 @@ use Rattle.si_lists.proofs.Lists.{all_map}
 use Rattle.si_lists.proofs.Outcomes.{then_some, map_some, if_some, any_some}
 use Rattle.guide_model.specs.Decoding.{IsKept}
 use Rattle.guide_model.specs.declared.event.Genre.{Genre}
+use Rattle.guide_model.specs.declared.descriptor.RawDesc.{RawDesc}
+use Rattle.guide_model.specs.Descriptors.{IsOfBytes}
+use Rattle.input_lines.proofs.GroupFacts.{IsRead}
 use Rattle.input_lines.specs.Fields.{line_fields, is_line, record_of}
 use Rattle.input_lines.specs.Numbers.{is_word, is_numeral, value_from, in_range, number_in}
 use Rattle.input_lines.proofs.CleanLines.{line_kept, is_line_back}
@@ -21,11 +24,12 @@ use Rattle.script_lines.specs.declared.heads.Head.{Head}
 use Rattle.script_lines.specs.declared.heads.Head.TheVariants.{Whole, OfDay}
 use Rattle.input_lines.specs.Ahead.{Ahead, Row, IfCame, on_line, stop_at, missing_at}
 use Rattle.input_lines.proofs.ValuesAhead.{then_came, line_came, begun_came, values_came}
-use Rattle.script_lines.specs.Items.{stamp_of, length_of, day_of, genre_from, genre_of, genres_of, all_some, rating_of, item_with, item_of, item_line}
+use Rattle.script_lines.specs.Items.{stamp_of, length_of, day_of, genre_from, genre_of, genres_of, all_some, rating_of, further_of, item_with, item_of, item_line}
 use Rattle.script_lines.specs.Heads.{put_of, withdraw_of, clear_of, name_of, day_head_of, edit_head}
 use Rattle.script_lines.specs.Edits.{first_item, items_of, with_items, edit_from, edits_ahead}
 use Rattle.journal_model.specs.Edits.{HasGenreNumbers, HasItemNumbers, HasNumbers, IsTypedItem, IsTypedEdit}
 use Rattle.script_lines.proofs.EditFacts.{head_in}
+use Rattle.script_lines.proofs.Shapes.{further_read}
 use Rattle.script_lines.specs.Laws.{ReadEditsAreTyped, EditsAheadAreTyped}
 
 -- ---- numbers
@@ -59,6 +63,13 @@ genres_typed : (field : List ℕ) → IfSome (genres_of field) (AllByRecursion H
 genres_typed [] = tt
 genres_typed (b ∷ bs) = all_genres (slice_split (λ c. c == 32) (b ∷ bs))
 
+further_typed : (fields : List (List ℕ)) → IfSome (further_of fields) (AllByRecursion IsOfBytes)
+further_typed fields = go (further_of fields) refl
+  where
+    go : (o : Option (List RawDesc)) → further_of fields ≡ o → IfSome o (AllByRecursion IsOfBytes)
+    go None is = tt
+    go (Some ds) is = all_map IsRead IsOfBytes (λ d read. read.1) ds (further_read fields ds is)
+
 -- ---- items
 
 abbrev IsTypedRating : RawRating → Type 0
@@ -79,26 +90,27 @@ rating_country None h = tt
 rating_country (Some rating) h = h.1
 
 with_typed : (language name short extended : List ℕ) → IsKept language → IsKept name → IsKept short → IsKept extended
-    → (id : Option ℕ) (start : Option Stamp) (length : Option Length) (rating : Option (Option RawRating)) (genres : Option (List Genre))
+    → (id : Option ℕ) (start : Option Stamp) (length : Option Length) (rating : Option (Option RawRating)) (genres : Option (List Genre)) (descriptors : Option (List RawDesc))
     → IfSome id (λ (n : ℕ). n ≤ 65535) → IfSome rating (λ (r : Option RawRating). IfSome r IsTypedRating) → IfSome genres (AllByRecursion HasGenreNumbers)
-    → IfSome (item_with language name short extended id start length rating genres) IsTypedItem
-with_typed language name short extended l n s e (Some id) (Some start) (Some length) (Some rating) (Some genres) i r g = record {
-  numbers = record { id = i; rating = rating_value rating r; genres = g };
+    → IfSome descriptors (AllByRecursion IsOfBytes)
+    → IfSome (item_with language name short extended id start length rating genres descriptors) IsTypedItem
+with_typed language name short extended l n s e (Some id) (Some start) (Some length) (Some rating) (Some genres) (Some descriptors) i r g m = record {
+  numbers = record { id = i; rating = rating_value rating r; genres = g; descriptors = m };
   language = l;
   name = n;
   short = s;
   extended = e;
   country = rating_country rating r;
 }
-with_typed language name short extended l n s e id start length rating genres i r g = tt
+with_typed language name short extended l n s e id start length rating genres descriptors i r g m = tt
 
 item_typed : (fields : List (List ℕ)) → AllByRecursion IsKept fields → IfSome (item_of fields) IsTypedItem
 unfolding item_of
-item_typed (event ∷ start ∷ length ∷ language ∷ name ∷ short ∷ extended ∷ country ∷ rating ∷ genres ∷ []) kept =
+item_typed (event ∷ start ∷ length ∷ language ∷ name ∷ short ∷ extended ∷ country ∷ rating ∷ genres ∷ further) kept =
     let texts = kept.1.1.1 in
     with_typed language name short extended texts.0 texts.1.0 texts.1.1.0 texts.1.1.1.0
-    (number_in 0 65535 event) (stamp_of start) (length_of length) (rating_of country rating) (genres_of genres)
-    (number_within 65535 event) (rating_typed country rating texts.1.1.1.1.0) (genres_typed genres)
+    (number_in 0 65535 event) (stamp_of start) (length_of length) (rating_of country rating) (genres_of genres) (further_of further)
+    (number_within 65535 event) (rating_typed country rating texts.1.1.1.1.0) (genres_typed genres) (further_typed further)
 item_typed other kept = tt
 
 item_line-typed : (fields : List (List ℕ)) → AllByRecursion IsKept fields → IfSome (item_line fields) IsTypedItem

@@ -1,6 +1,8 @@
 -- The fields of an edit's lines, which read back as the edit.
 use Rattle.std.specs.Prelude.{◌≡◌, ℕ, List, [], ◌∷◌, ◌++◌, length, map, Option, Some, None, codes, decimal}
 use Rattle.guide_model.specs.Genres.{genres_text}
+use Rattle.guide_model.specs.Descriptors.{descriptors_text}
+use Rattle.guide_model.specs.declared.descriptor.RawDesc.{RawDesc}
 use Rattle.input_lines.specs.Fields.{record_of}
 use Rattle.journal_model.specs.declared.edit.RawRating.{RawRating}
 use Rattle.journal_model.specs.declared.edit.Item.{Item}
@@ -18,11 +20,16 @@ abbrev pub rating_field : Option RawRating → List ℕ
 rating_field None = []
 rating_field (Some rating) = decimal rating.value
 
--- EVENT,START,DURATION,LANGUAGE,NAME,SHORT,EXTENDED,COUNTRY,RATING,GENRES
+-- DESCRIPTORS, where there are some
+abbrev pub further_fields : List RawDesc → List (List ℕ)
+further_fields [] = []
+further_fields (d ∷ ds) = descriptors_text (d ∷ ds) ∷ []
+
+-- EVENT,START,DURATION,LANGUAGE,NAME,SHORT,EXTENDED,COUNTRY,RATING,GENRES and, where an event has some, DESCRIPTORS
 abbrev pub item_fields : Item → List (List ℕ)
 item_fields item =
     decimal item.id ∷ item.start.0 ∷ item.length.0 ∷ item.language ∷ item.name ∷ item.short ∷ item.extended
-    ∷ country_field item.rating ∷ rating_field item.rating ∷ genres_text item.genres ∷ []
+    ∷ country_field item.rating ∷ rating_field item.rating ∷ genres_text item.genres ∷ further_fields item.descriptors
 
 -- the fields of an edit's line
 abbrev pub edit_fields : Edit → List (List ℕ)

@@ -3,6 +3,8 @@ use Rattle.std.specs.Prelude.{ℕ, ◌==◌, List, [], ◌∷◌, map, Option, S
 use Rattle.std.specs.List.{slice_split}
 use Rattle.si_time.specs.Readings.{has_shape}
 use Rattle.guide_model.specs.declared.event.Genre.{Genre}
+use Rattle.guide_model.specs.declared.descriptor.RawDesc.{RawDesc}
+use Rattle.input_lines.specs.Groups.{descriptors_in}
 use Rattle.input_lines.specs.Numbers.{is_word, number_in}
 use Rattle.journal_model.specs.declared.edit.Stamp.{Stamp}
 use Rattle.journal_model.specs.declared.edit.Length.{Length}
@@ -55,9 +57,21 @@ rating_of [] [] = Some None
 rating_of [] (v ∷ vs) = None
 rating_of (c ∷ cs) value = option_map (λ n. Some (rating_with (c ∷ cs) n)) (number_in 0 255 value)
 
+-- DESCRIPTORS: nothing, or groups which single spaces part
+abbrev pub descriptors_of : List ℕ → Option (List RawDesc)
+descriptors_of [] = Some []
+descriptors_of (b ∷ bs) = descriptors_in (b ∷ bs)
+
+-- the fields after GENRES: none, or DESCRIPTORS
+abbrev pub further_of : List (List ℕ) → Option (List RawDesc)
+further_of [] = Some []
+further_of (field ∷ []) = descriptors_of field
+further_of fields = None
+
 -- the event of these texts and values, where each value is there
-abbrev pub item_with : List ℕ → List ℕ → List ℕ → List ℕ → Option ℕ → Option Stamp → Option Length → Option (Option RawRating) → Option (List Genre) → Option Item
-item_with language name short extended (Some id) (Some start) (Some length) (Some rating) (Some genres) = Some (record {
+abbrev pub item_with : List ℕ → List ℕ → List ℕ → List ℕ → Option ℕ → Option Stamp → Option Length → Option (Option RawRating) → Option (List Genre)
+    → Option (List RawDesc) → Option Item
+item_with language name short extended (Some id) (Some start) (Some length) (Some rating) (Some genres) (Some descriptors) = Some (record {
   id = id;
   start = start;
   length = length;
@@ -67,13 +81,15 @@ item_with language name short extended (Some id) (Some start) (Some length) (Som
   extended = extended;
   rating = rating;
   genres = genres;
+  descriptors = descriptors;
 })
-item_with language name short extended id start length rating genres = None
+item_with language name short extended id start length rating genres descriptors = None
 
--- EVENT,START,DURATION,LANGUAGE,NAME,SHORT,EXTENDED,COUNTRY,RATING,GENRES
+-- EVENT,START,DURATION,LANGUAGE,NAME,SHORT,EXTENDED,COUNTRY,RATING,GENRES and, where an event has some, DESCRIPTORS
 unfoldable pub item_of : List (List ℕ) → Option Item
-item_of (event ∷ start ∷ length ∷ language ∷ name ∷ short ∷ extended ∷ country ∷ rating ∷ genres ∷ []) =
+item_of (event ∷ start ∷ length ∷ language ∷ name ∷ short ∷ extended ∷ country ∷ rating ∷ genres ∷ further) =
     item_with language name short extended (number_in 0 65535 event) (stamp_of start) (length_of length) (rating_of country rating) (genres_of genres)
+    (further_of further)
 item_of fields = None
 
 -- `item,` and the fields of an event

@@ -4,7 +4,7 @@ use Rattle.std.specs.List.{find}
 use Rattle.si_time.specs.Moments.{moment_text}
 use Rattle.input_lines.specs.Numbers.{is_word, number_in, numeral_of}
 use Rattle.journal_model.specs.declared.reply.Field.{Field}
-use Rattle.journal_model.specs.declared.reply.Field.TheVariants.{Start, Duration, Window, Language, Name, Short, Extended, Country, Rating, Genre, Provider, ServiceName, Count, Segment}
+use Rattle.journal_model.specs.declared.reply.Field.TheVariants.{Start, Duration, Window, Language, Name, Short, Extended, Country, Rating, Genre, Descriptor, Provider, ServiceName, Count, Segment}
 use Rattle.journal_model.specs.declared.reply.DayFault.{DayFault}
 use Rattle.journal_model.specs.declared.reply.DayFault.TheVariants.{Range as BadField, Overlap as Overlaps}
 use Rattle.journal_model.specs.declared.reply.Reply.{Reply}
@@ -26,14 +26,16 @@ field_word Extended = codes "extended"
 field_word Country = codes "country"
 field_word Rating = codes "rating"
 field_word Genre = codes "genre"
+field_word Descriptor = codes "descriptor"
 field_word Provider = codes "provider"
 field_word ServiceName = codes "servicename"
 field_word (Count n) = codes "count"
 field_word (Segment n) = codes "segment"
 
--- those that have no number: of an event its times and texts, what it is rated and classed as; and of a name its texts
+-- those that have no number: of an event its times and texts, what it is rated and classed as, and its further descriptors; and of a
+-- name its texts
 abbrev pub plain_fields : List Field
-plain_fields = Start ∷ Duration ∷ Window ∷ Language ∷ Name ∷ Short ∷ Extended ∷ Country ∷ Rating ∷ Genre ∷ Provider ∷ ServiceName ∷ []
+plain_fields = Start ∷ Duration ∷ Window ∷ Language ∷ Name ∷ Short ∷ Extended ∷ Country ∷ Rating ∷ Genre ∷ Descriptor ∷ Provider ∷ ServiceName ∷ []
 
 -- the first of these fields that has this word
 abbrev pub field_named : List ℕ → List Field → Option Field

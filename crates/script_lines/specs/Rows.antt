@@ -13,6 +13,7 @@ use Rattle.script_lines.specs.Edits.{items_of, edits_ahead, edits_of}
 use Rattle.guide_model.specs.Genres.{genres_text}
 use Rattle.script_lines.specs.EditFields.{edit_fields}
 use Rattle.input_lines.specs.Fields.{fields_compute}
+use Rattle.input_lines.specs.Groups.{groups_compute}
 use Rattle.journal_model.specs.declared.reply.Field.TheVariants.{Segment}
 use Rattle.journal_model.specs.declared.reply.DayFault.TheVariants.{Range as BadField, Overlap as Overlaps}
 use Rattle.journal_model.specs.declared.reply.Reply.TheVariants.{Done, Member}
@@ -67,6 +68,7 @@ news = record {
   extended = [];
   rating = None;
   genres = [];
+  descriptors = [];
 }
 
 abbrev news_fields : List (List ℕ)
@@ -76,9 +78,33 @@ of_ten : item_of (codes "0007" ∷ news_fields) ≡ Some news
 unfolding item_of
 of_ten = refl
 
-of_eleven : item_of (codes "7" ∷ news_fields ++ [] ∷ []) ≡ None
+-- one field more: nothing, or groups with one space between, each of a tag, a length and just so many bytes
+of_eleven : item_of (codes "7" ∷ news_fields ++ [] ∷ []) ≡ Some news
 unfolding item_of
 of_eleven = refl
+
+of_twelve : item_of (codes "7" ∷ news_fields ++ [] ∷ [] ∷ []) ≡ None
+unfolding item_of
+of_twelve = refl
+
+abbrev described : Item
+described = record news { descriptors = record { tag = 0x50; body = 0xF5 ∷ 0x0B ∷ 0x01 ∷ 0x64 ∷ 0x65 ∷ 0x75 ∷ [] } ∷ record { tag = 0xFF; body = [] } ∷ [] }
+
+with_groups : item_of (codes "7" ∷ news_fields ++ codes "5006F50B01646575 ff00" ∷ []) ≡ Some described
+unfolding item_of groups_compute
+with_groups = refl
+
+with_two_spaces : item_of (codes "7" ∷ news_fields ++ codes "5000  5000" ∷ []) ≡ None
+unfolding item_of groups_compute
+with_two_spaces = refl
+
+of_a_digit : item_of (codes "7" ∷ news_fields ++ codes "5" ∷ []) ≡ None
+unfolding item_of groups_compute
+of_a_digit = refl
+
+with_a_byte_more : item_of (codes "7" ∷ news_fields ++ codes "5000F5" ∷ []) ≡ None
+unfolding item_of groups_compute
+with_a_byte_more = refl
 
 listed : item_line (codes "item" ∷ codes "7" ∷ news_fields) ≡ Some news
 unfolding item_line item_of
@@ -127,6 +153,11 @@ bad_item = refl
 put_fields : edit_fields (Put 101 news) ≡ codes "put" ∷ codes "101" ∷ codes "7" ∷ news_fields
 unfolding digits
 put_fields = refl
+
+-- descriptors in lower-case digits
+described_fields : edit_fields (Put 101 described) ≡ codes "put" ∷ codes "101" ∷ codes "7" ∷ news_fields ++ codes "5006f50b01646575 ff00" ∷ []
+unfolding digits groups_compute
+described_fields = refl
 
 genres_back : genres_text (record { level1 = 1; level2 = 2; user = 255 } ∷ record { level1 = 3; level2 = 0; user = 0 } ∷ []) ≡ codes "1.2.255 3.0.0"
 unfolding digits

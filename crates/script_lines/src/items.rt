@@ -1,10 +1,10 @@
 // Events in the fields of a line.
 ghost use Rattle.std.specs.Prelude.{◌≡◌, IfOk, IfSome, map};
-ghost use Rattle.script_lines.specs.Items.{day_of, genre_from, genre_of, genres_of, item_line, item_of, length_of, rating_of, stamp_of};
+ghost use Rattle.script_lines.specs.Items.{day_of, descriptors_of, further_of, genre_from, genre_of, genres_of, item_line, item_of, length_of, rating_of, stamp_of};
 ghost use Rattle.journal_model.specs.Edits.{IsShapedItem};
 
-use guide_model::{Genre, Genres, Txt};
-use input_lines::{is_word, number};
+use guide_model::{Genre, Genres, RawDescs, Txt};
+use input_lines::{descriptors_in, is_word, number};
 use journal_model::{DayText, Item, Length, RawRating, Stamp};
 use si_time::has_shape;
 use std::alloc::{AllocError, Global};
@@ -109,7 +109,31 @@ fn read_rating(country: &Txt, value: &Txt) -> Result<Option<Option<RawRating>>, 
     })))
 }
 
-// The event of ten fields.
+// The descriptors of a field.
+fn read_descriptors(alloc: Global, field: &str) -> Result<Option<RawDescs>, AllocError>
+    ensures { IfOk result (λ found. found ≡ descriptors_of field.now) }
+{
+    if field.is_empty() {
+        return Ok(Some(RawDescs::new(alloc)));
+    }
+    descriptors_in(alloc, field)
+}
+
+/// The descriptors of the fields after GENRES: without a field, and of an empty one, no descriptor; of another one those of its
+/// groups of hexadecimal digits, as `descriptors_in` of `input_lines` reads them. `None` comes exactly where they are no such fields.
+pub fn read_further(alloc: Global, fields: &[Txt]) -> Result<Option<RawDescs>, AllocError>
+    ensures { IfOk result (λ found. found ≡ further_of fields.now) }
+{
+    if fields.is_empty() {
+        return Ok(Some(RawDescs::new(alloc)));
+    }
+    let [field] = fields else {
+        return Ok(None);
+    };
+    read_descriptors(alloc, field.as_str())
+}
+
+// The event of ten fields, or of one more.
 #[tactic(auto, unfolding(crate::specs::Items::item_of))]
 pub(crate) fn read_item(alloc: Global, fields: &[Txt]) -> Result<Option<Item>, AllocError>
     ensures value { IfOk result (λ found. found ≡ item_of fields.now) }
@@ -126,6 +150,7 @@ pub(crate) fn read_item(alloc: Global, fields: &[Txt]) -> Result<Option<Item>, A
         country,
         value,
         groups,
+        further @ ..,
     ] = fields
     else {
         return Ok(None);
@@ -145,6 +170,9 @@ pub(crate) fn read_item(alloc: Global, fields: &[Txt]) -> Result<Option<Item>, A
     let Some(genres) = read_genres(alloc, groups.as_str())? else {
         return Ok(None);
     };
+    let Some(descriptors) = read_further(alloc, further)? else {
+        return Ok(None);
+    };
     Ok(Some(Item {
         id: id as u16,
         start,
@@ -155,6 +183,7 @@ pub(crate) fn read_item(alloc: Global, fields: &[Txt]) -> Result<Option<Item>, A
         extended: extended.copy()?,
         rating,
         genres,
+        descriptors,
     }))
 }
 

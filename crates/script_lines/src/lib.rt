@@ -9,6 +9,7 @@
 //! as wide as their fields, texts that may be kept, moments that can be written
 //! (`read_edits_are_typed`, `items_go_on`). Reading goes on edit by edit and item by item
 //! (`edits_go_on`, `items_go_on`). The fields of an edit read back as the edit (`edits_read_back`).
+//! [`read_genres`] and [`read_further`] read single fields of an event.
 //!
 //! Tested in `desk_rows`: edits cut into pieces, control lines and scripts of each form.
 //!
@@ -28,7 +29,7 @@ pub use control::{next_control, read_control};
 pub use edits::{next_edit, read_edit};
 pub use heads::{Head, read_head};
 pub use input_lines::EditStop;
-pub use items::{read_genres, read_item_line};
+pub use items::{read_further, read_genres, read_item_line};
 pub use journal_model::{DayItems, DayText, Edit, Item, Length, RawRating, Stamp};
 pub use kept_outcome::read_outcome;
 pub use laws::{edits_go_on, edits_read_back, items_go_on, read_edits_are_typed};

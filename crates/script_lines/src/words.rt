@@ -22,6 +22,7 @@ pub fn field_word(field: Field) -> &'static str
         Field::Country => "country",
         Field::Rating => "rating",
         Field::Genre => "genre",
+        Field::Descriptor => "descriptor",
         Field::Provider => "provider",
         Field::ServiceName => "servicename",
         Field::Count(_) => "count",
@@ -55,6 +56,7 @@ pub(crate) fn plain_field(word: &str) -> Option<Field>
         Field::Country,
         Field::Rating,
         Field::Genre,
+        Field::Descriptor,
         Field::Provider,
         Field::ServiceName,
     ];

@@ -8,6 +8,8 @@ use Rattle.std.proofs.lemmas.Slice.Eq.{bytes_eq-Decides}
 use Rattle.guide_model.specs.Control.{has_control}
 use Rattle.si_time.specs.Readings.{has_shape, moment_in}
 use Rattle.guide_model.specs.declared.event.Genre.{Genre}
+use Rattle.guide_model.specs.declared.descriptor.RawDesc.{RawDesc}
+use Rattle.script_lines.proofs.EventFields.{no_descriptors}
 use Rattle.input_lines.specs.Fields.{line_fields, record_of}
 use Rattle.input_lines.specs.Numbers.{is_word, number_in}
 use Rattle.journal_model.specs.declared.control.Control.TheVariants.{Tick}
@@ -19,14 +21,14 @@ use Rattle.script_lines.specs.Controls.{control_of, moment_with}
 use Rattle.script_lines.specs.declared.heads.Head.{Head}
 use Rattle.script_lines.specs.declared.heads.Head.TheVariants.{OfDay, Whole}
 use Rattle.script_lines.specs.Heads.{clear_of, day_head_of, edit_head, name_of, put_of, withdraw_of}
-use Rattle.script_lines.specs.Items.{day_of, genres_of, item_line, item_of, item_with, length_of, rating_of, stamp_of}
+use Rattle.script_lines.specs.Items.{day_of, further_of, genres_of, item_line, item_of, item_with, length_of, rating_of, stamp_of}
 use Rattle.script_lines.specs.Outcomes.{outcome_of_fields}
 use Rattle.script_lines.specs.Script.{caller_of, control_step, kept_in}
 use Rattle.script_notes.specs.declared.why.FieldName.TheVariants as field
 use Rattle.script_notes.specs.declared.why.LineWord.TheVariants as word
 use Rattle.script_notes.specs.declared.why.Why.{Why}
 use Rattle.script_notes.specs.declared.why.Why.TheVariants.{BadField, FieldCount, Misplaced, NoCommand, NoFields, NoOutcome}
-use Rattle.script_notes.specs.Faults.{unless, why_by, why_clear, why_day, why_edit, why_event, why_feed, why_fields, why_id, why_item, why_name, why_of_step, why_outcome, why_put, why_rating, why_step, why_unread, why_withdraw, word_named}
+use Rattle.script_notes.specs.Faults.{is_event_count, unless, why_by, why_clear, why_day, why_edit, why_event, why_feed, why_fields, why_id, why_item, why_name, why_of_step, why_outcome, why_put, why_rating, why_step, why_unread, why_withdraw, word_named}
 use Rattle.script_notes.specs.Heads.{caller_head, command_head, feed_head, fields_head, kept_head, step_head}
 use Rattle.script_notes.specs.Laws.{WhyIsExact, WhyOfLinesIsExact}
 
@@ -62,39 +64,52 @@ rating_exact k [] [] = refl
 rating_exact k [] (v ∷ vs) = refl
 rating_exact k (c ∷ cs) value = map_exact (unless (is_some (number_in 0 255 value)) (BadField field.Rating (k + 1))) (number_in 0 255 value) _ (unless_exact (number_in 0 255 value) (BadField field.Rating (k + 1)))
 
-with_exact : (d e f g : List ℕ) (a b c j : Why) (rated : Option Why) (id : Option ℕ) (start : Option Stamp) (lasts : Option Length) (rating : Option (Option RawRating)) (genres : Option (List Genre)) → IsExact rated rating
-    → IsExact (option_or (unless (is_some id) a) (option_or (unless (is_some start) b) (option_or (unless (is_some lasts) c) (option_or rated (unless (is_some genres) j))))) (item_with d e f g id start lasts rating genres)
-with_exact d e f g a b c j rated None start lasts rating genres h = refl
-with_exact d e f g a b c j rated (Some id) None lasts rating genres h = refl
-with_exact d e f g a b c j rated (Some id) (Some start) None rating genres h = refl
-with_exact d e f g a b c j (Some why) (Some id) (Some start) (Some lasts) None genres h = refl
-with_exact d e f g a b c j None (Some id) (Some start) (Some lasts) None genres h = absurd cc
-with_exact d e f g a b c j (Some why) (Some id) (Some start) (Some lasts) (Some rating) genres h = absurd cc
-with_exact d e f g a b c j None (Some id) (Some start) (Some lasts) (Some rating) None h = refl
-with_exact d e f g a b c j None (Some id) (Some start) (Some lasts) (Some rating) (Some genres) h = refl
+-- GENRES, and the fields after it
+abbrev listed_by : Option (List Genre) → Option (List RawDesc) → Why → Why → Option Why
+listed_by genres further listed described = option_or (unless (is_some genres) listed) (unless (is_some further) described)
 
-ten_exact : (k : ℕ) (fields : List (List ℕ)) → length fields ≡ 10 → IsExact (why_event k fields) (item_of fields)
+with_exact : (d e f g : List ℕ) (a b c j m : Why) (rated : Option Why) (id : Option ℕ) (start : Option Stamp) (lasts : Option Length) (rating : Option (Option RawRating)) (genres : Option (List Genre))
+    (further : Option (List RawDesc)) → IsExact rated rating
+    → IsExact (option_or (unless (is_some id) a) (option_or (unless (is_some start) b) (option_or (unless (is_some lasts) c) (option_or rated (listed_by genres further j m)))))
+    (item_with d e f g id start lasts rating genres further)
+with_exact d e f g a b c j m rated None start lasts rating genres further h = refl
+with_exact d e f g a b c j m rated (Some id) None lasts rating genres further h = refl
+with_exact d e f g a b c j m rated (Some id) (Some start) None rating genres further h = refl
+with_exact d e f g a b c j m (Some why) (Some id) (Some start) (Some lasts) None genres further h = refl
+with_exact d e f g a b c j m None (Some id) (Some start) (Some lasts) None genres further h = absurd cc
+with_exact d e f g a b c j m (Some why) (Some id) (Some start) (Some lasts) (Some rating) genres further h = absurd cc
+with_exact d e f g a b c j m None (Some id) (Some start) (Some lasts) (Some rating) None further h = refl
+with_exact d e f g a b c j m None (Some id) (Some start) (Some lasts) (Some rating) (Some genres) None h = refl
+with_exact d e f g a b c j m None (Some id) (Some start) (Some lasts) (Some rating) (Some genres) (Some further) h = refl
+
+counted_exact : (k : ℕ) (fields : List (List ℕ)) → is_event_count (length fields) ≡ true → IsExact (why_event k fields) (item_of fields)
 unfolding why_event item_of
-ten_exact k (a ∷ b ∷ c ∷ d ∷ e ∷ f ∷ g ∷ h ∷ i ∷ j ∷ []) is =
+counted_exact k (a ∷ b ∷ c ∷ d ∷ e ∷ f ∷ g ∷ h ∷ i ∷ j ∷ more) is =
     let rated = why_rating (k + 7) h i in
     let starts = BadField field.Start (k + 1) in
     let lasts = BadField field.Duration (k + 2) in
     let listed = BadField field.Genres (k + 9) in
-    let item = item_with d e f g (number_in 0 65535 a) (stamp_of b) (length_of c) (rating_of h i) (genres_of j) in
-    subst (λ (s : Bool). IsExact (option_or (why_id field.Event k a) (option_or (unless s starts) (option_or (unless (has_shape (codes "dd:dd:dd") c) lasts) (option_or rated (unless (is_some (genres_of j)) listed))))) item) (sym (stamp_some b))
-    (subst (λ (l : Bool). IsExact (option_or (why_id field.Event k a) (option_or (unless (is_some (stamp_of b)) starts) (option_or (unless l lasts) (option_or rated (unless (is_some (genres_of j)) listed))))) item) (sym (length_some c))
-    (with_exact d e f g (BadField field.Event k) starts lasts listed rated (number_in 0 65535 a) (stamp_of b) (length_of c) (rating_of h i) (genres_of j) (rating_exact (k + 7) h i)))
-ten_exact k fields is = absurd (omega arith)
+    let described = BadField field.Descriptors (k + 10) in
+    let rest = option_or rated (listed_by (genres_of j) (further_of more) listed described) in
+    let item = item_with d e f g (number_in 0 65535 a) (stamp_of b) (length_of c) (rating_of h i) (genres_of j) (further_of more) in
+    subst (λ (s : Bool). IsExact (option_or (why_id field.Event k a) (option_or (unless s starts) (option_or (unless (has_shape (codes "dd:dd:dd") c) lasts) rest))) item) (sym (stamp_some b))
+    (subst (λ (l : Bool). IsExact (option_or (why_id field.Event k a) (option_or (unless (is_some (stamp_of b)) starts) (option_or (unless l lasts) rest))) item) (sym (length_some c))
+    (with_exact d e f g (BadField field.Event k) starts lasts listed described rated (number_in 0 65535 a) (stamp_of b) (length_of c) (rating_of h i) (genres_of j) (further_of more)
+    (rating_exact (k + 7) h i)))
+counted_exact k fields is = absurd cc
 
-not_ten : (fields : List (List ℕ)) → (length fields == 10) ≡ false → item_of fields ≡ None
+not_counted : (fields : List (List ℕ)) → is_event_count (length fields) ≡ false → item_of fields ≡ None
 unfolding item_of
-not_ten (a ∷ b ∷ c ∷ d ∷ e ∷ f ∷ g ∷ h ∷ i ∷ j ∷ []) is = absurd cc
-not_ten fields is = refl
+not_counted (a ∷ b ∷ c ∷ d ∷ e ∷ f ∷ g ∷ h ∷ i ∷ j ∷ []) is = absurd cc
+not_counted (a ∷ b ∷ c ∷ d ∷ e ∷ f ∷ g ∷ h ∷ i ∷ j ∷ one ∷ []) is = absurd cc
+not_counted (a ∷ b ∷ c ∷ d ∷ e ∷ f ∷ g ∷ h ∷ i ∷ j ∷ one ∷ two ∷ more) is =
+    no_descriptors d e f g (number_in 0 65535 a) (stamp_of b) (length_of c) (rating_of h i) (genres_of j)
+not_counted fields is = refl
 
-event_exact : (k : ℕ) (why : Why) (fields : List (List ℕ)) → IsExact (if length fields == 10 then why_event k fields else Some why) (item_of fields)
-event_exact k why fields = elim (cases_Bool (length fields == 10)) [
-  | inl e ↦ rw e (ten_exact k fields (eqb-true (length fields) 10 e))
-  | inr e ↦ rw (e, not_ten fields e) refl
+event_exact : (k : ℕ) (why : Why) (fields : List (List ℕ)) → IsExact (if is_event_count (length fields) then why_event k fields else Some why) (item_of fields)
+event_exact k why fields = elim (cases_Bool (is_event_count (length fields))) [
+  | inl e ↦ rw e (counted_exact k fields e)
+  | inr e ↦ rw (e, not_counted fields e) refl
 ]
 
 -- ---- the fields of an edit
@@ -103,13 +118,13 @@ put_exact : (k : ℕ) (fields : List (List ℕ)) → IsExact (why_put k fields) 
 put_exact k [] = refl
 put_exact k (service ∷ event) = go (number_in 0 65535 service)
   where
-    more : IsExact (if length event == 10 then why_event (k + 1) event else Some (FieldCount word.Put (length event + 1))) (item_of event)
+    more : IsExact (if is_event_count (length event) then why_event (k + 1) event else Some (FieldCount word.Put (length event + 1))) (item_of event)
     more = event_exact (k + 1) (FieldCount word.Put (length event + 1)) event
 
-    go : (s : Option ℕ) → IsExact (if length event == 10 then option_or (unless (is_some s) (BadField field.Service k)) (why_event (k + 1) event) else Some (FieldCount word.Put (length event + 1)))
+    go : (s : Option ℕ) → IsExact (if is_event_count (length event) then option_or (unless (is_some s) (BadField field.Service k)) (why_event (k + 1) event) else Some (FieldCount word.Put (length event + 1)))
         (option_and_then (λ s. option_map (λ i. Whole (Put s i)) (item_of event)) s)
-    go None = elim (cases_Bool (length event == 10)) [ inl e ↦ rw e refl | inr e ↦ rw e refl ]
-    go (Some s) = map_exact (if length event == 10 then why_event (k + 1) event else Some (FieldCount word.Put (length event + 1))) (item_of event) _ more
+    go None = elim (cases_Bool (is_event_count (length event))) [ inl e ↦ rw e refl | inr e ↦ rw e refl ]
+    go (Some s) = map_exact (if is_event_count (length event) then why_event (k + 1) event else Some (FieldCount word.Put (length event + 1))) (item_of event) _ more
 
 withdraw_exact : (k : ℕ) (fields : List (List ℕ)) → IsExact (why_withdraw k fields) (withdraw_of fields)
 withdraw_exact k [] = refl

@@ -1,5 +1,5 @@
 -- What is asked of a line and of its fields.
-use Rattle.std.proofs.Common.{◌≡◌, ◌∙◌, ◌<◌, ◌≤◌, ◌+◌, ℕ, true, false, List, [], ◌∷◌, length, get_or, refl, ap, inl, inr, arith}
+use Rattle.std.proofs.Common.{◌≡◌, ◌∙◌, ◌<◌, ◌≤◌, ◌+◌, ℕ, true, false, List, [], ◌∷◌, length, drop, get_or, refl, ap, inl, inr, arith}
 use Rattle.std.specs.Prelude.{Option, Some, None, is_some, option_map, codes, nat_le}
 use Rattle.std.specs.Option.{option_or}
 use Rattle.std.specs.Str.{IsUtf8, is_utf8}
@@ -9,10 +9,10 @@ use Rattle.std.proofs.lemmas.Str.{is_utf8-from_IsUtf8, IsUtf8-from_is_utf8}
 use Rattle.guide_model.specs.Control.{has_control}
 use Rattle.si_time.specs.Readings.{has_shape}
 use Rattle.si_time.specs.declared.moment.Moment.{Moment}
-use Rattle.script_lines.specs.Items.{genres_of}
 use Rattle.script_notes.specs.declared.why.FieldName.TheVariants as field
 use Rattle.script_notes.specs.declared.why.Why.TheVariants.{BadField, ControlCharacter, NotUtf8, TooLong}
-use Rattle.script_notes.specs.Faults.{unless, why_event, why_id, why_rating, why_unread}
+use Rattle.script_lines.proofs.EventFields.{after_ten, rest_of_ten}
+use Rattle.script_notes.specs.Faults.{unless, why_event, why_id, why_listed, why_rating, why_unread}
 
 short_enough : (n : ℕ) → n ≤ 16384 → nat_le n 16384 ≡ true
 short_enough n le = grind (arith, nat_tests)
@@ -45,13 +45,21 @@ same_some r o e = is r ∙ ap is_some e
 abbrev Text : Type 0
 Text = List ℕ
 
--- the ten fields of an event
-pub event_is : (k : ℕ) (xs : List Text) (a b c h i j : Text) → 10 ≤ length xs → length xs < 11
+-- the ten fields of an event, and those after them
+event_by : (k : ℕ) (xs : List Text) (a b c h i j : Text) (more : List Text) → 10 ≤ length xs
+    → a ≡ get_or xs 0 a → b ≡ get_or xs 1 b → c ≡ get_or xs 2 c → h ≡ get_or xs 7 h → i ≡ get_or xs 8 i → j ≡ get_or xs 9 j → more ≡ drop 10 xs
+    → why_event k xs ≡ option_or (why_id field.Event k a)
+    (option_or (unless (has_shape (codes "dddd-dd-ddTdd:dd:ddZ") b) (BadField field.Start (k + 1)))
+    (option_or (unless (has_shape (codes "dd:dd:dd") c) (BadField field.Duration (k + 2)))
+    (option_or (why_rating (k + 7) h i) (why_listed (k + 9) j more))))
+unfolding why_event
+event_by k (a' ∷ b' ∷ c' ∷ d' ∷ e' ∷ f' ∷ g' ∷ h' ∷ i' ∷ j' ∷ rest) a b c h i j more low ea eb ec eh ei ej er = rw (ea, eb, ec, eh, ei, ej, er) refl
+event_by k xs a b c h i j more low ea eb ec eh ei ej er = absurd (omega arith)
+
+pub event_is : (k : ℕ) (xs : List Text) (a b c h i j : Text) → 10 ≤ length xs
     → a ≡ get_or xs 0 a → b ≡ get_or xs 1 b → c ≡ get_or xs 2 c → h ≡ get_or xs 7 h → i ≡ get_or xs 8 i → j ≡ get_or xs 9 j
     → why_event k xs ≡ option_or (why_id field.Event k a)
     (option_or (unless (has_shape (codes "dddd-dd-ddTdd:dd:ddZ") b) (BadField field.Start (k + 1)))
     (option_or (unless (has_shape (codes "dd:dd:dd") c) (BadField field.Duration (k + 2)))
-    (option_or (why_rating (k + 7) h i) (unless (is_some (genres_of j)) (BadField field.Genres (k + 9))))))
-unfolding why_event
-event_is k (a' ∷ b' ∷ c' ∷ d' ∷ e' ∷ f' ∷ g' ∷ h' ∷ i' ∷ j' ∷ []) a b c h i j low high ea eb ec eh ei ej = rw (ea, eb, ec, eh, ei, ej) refl
-event_is k xs a b c h i j low high ea eb ec eh ei ej = absurd (omega arith)
+    (option_or (why_rating (k + 7) h i) (why_listed (k + 9) j (rest_of_ten xs)))))
+event_is k xs a b c h i j low ea eb ec eh ei ej = event_by k xs a b c h i j (rest_of_ten xs) low ea eb ec eh ei ej (after_ten xs)

@@ -7,7 +7,7 @@ use Rattle.guide_model.specs.Control.{has_control}
 use Rattle.si_time.specs.Readings.{has_shape, moment_in}
 use Rattle.input_lines.specs.Fields.{line_fields}
 use Rattle.input_lines.specs.Numbers.{is_word, number_in}
-use Rattle.script_lines.specs.Items.{genres_of}
+use Rattle.script_lines.specs.Items.{further_of, genres_of}
 use Rattle.script_lines.specs.Outcomes.{outcome_of_fields}
 use Rattle.script_lines.specs.Script.{caller_of}
 use Rattle.script_notes.specs.declared.why.LineWord.{LineWord}
@@ -15,7 +15,7 @@ use Rattle.script_notes.specs.declared.why.LineWord.TheVariants as word
 use Rattle.script_notes.specs.declared.why.FieldName.TheVariants as field
 use Rattle.script_notes.specs.declared.why.Why.{Why}
 use Rattle.script_notes.specs.declared.why.Why.TheVariants.{BadField, ControlCharacter, FieldCount, NoItem, NoOutcome, NotUtf8, TooLong}
-use Rattle.script_notes.specs.Faults.{unless, why_by, why_clear, why_command, why_day, why_edit, why_event, why_event_fields, why_feed, why_fields, why_id, why_item, why_item_line, why_line, why_name, why_nothing, why_of_edit, why_of_step, why_outcome, why_put, why_rating, why_step, why_tick, why_unread, why_withdraw, word_named}
+use Rattle.script_notes.specs.Faults.{is_event_count, unless, why_by, why_clear, why_command, why_day, why_edit, why_event, why_event_fields, why_feed, why_fields, why_id, why_item, why_item_line, why_line, why_listed, why_name, why_nothing, why_of_edit, why_of_step, why_outcome, why_put, why_rating, why_step, why_tick, why_unread, why_withdraw, word_named}
 use Rattle.script_notes.specs.Notings.{told}
 use Rattle.script_notes.specs.Whys.{CanBeSaid}
 
@@ -43,17 +43,22 @@ rating_said k [] [] = tt
 rating_said k [] (v ∷ vs) = tt
 rating_said k (c ∷ cs) rating = unless_said (is_some (number_in 0 255 rating)) (BadField field.Rating (k + 1)) tt
 
+listed_said : (k : ℕ) (genres : List ℕ) (more : List (List ℕ)) → IsSaid (why_listed k genres more)
+listed_said k genres more =
+    let described = unless (is_some (further_of more)) (BadField field.Descriptors (k + 1)) in
+    then_said (is_some (genres_of genres)) (BadField field.Genres k) described tt (unless_said (is_some (further_of more)) (BadField field.Descriptors (k + 1)) tt)
+
 event_said : (k : ℕ) (fields : List (List ℕ)) → IsSaid (why_event k fields)
 unfolding why_event
-event_said k (a ∷ b ∷ c ∷ d ∷ e ∷ f ∷ g ∷ h ∷ i ∷ j ∷ []) =
-    let genre = unless (is_some (genres_of j)) (BadField field.Genres (k + 9)) in
-    let rated = option_or (why_rating (k + 7) h i) genre in
+event_said k (a ∷ b ∷ c ∷ d ∷ e ∷ f ∷ g ∷ h ∷ i ∷ j ∷ more) =
+    let listed = why_listed (k + 9) j more in
+    let rated = option_or (why_rating (k + 7) h i) listed in
     let lasts = option_or (unless (has_shape (codes "dd:dd:dd") c) (BadField field.Duration (k + 2))) rated in
     let starts = option_or (unless (has_shape (codes "dddd-dd-ddTdd:dd:ddZ") b) (BadField field.Start (k + 1))) lasts in
     then_said (is_some (number_in 0 65535 a)) (BadField field.Event k) starts tt
     (then_said (has_shape (codes "dddd-dd-ddTdd:dd:ddZ") b) (BadField field.Start (k + 1)) lasts tt
     (then_said (has_shape (codes "dd:dd:dd") c) (BadField field.Duration (k + 2)) rated tt
-    (or_said (why_rating (k + 7) h i) genre (rating_said (k + 7) h i) (unless_said (is_some (genres_of j)) (BadField field.Genres (k + 9)) tt))))
+    (or_said (why_rating (k + 7) h i) listed (rating_said (k + 7) h i) (listed_said (k + 9) j more))))
 event_said k fields = tt
 
 nothing_said : (w : LineWord) (fields : List (List ℕ)) → IsSaid (why_nothing w fields)
@@ -68,7 +73,7 @@ tick_said k (m ∷ n ∷ fields) = tt
 put_said : (k : ℕ) (fields : List (List ℕ)) → IsSaid (why_put k fields)
 put_said k [] = tt
 put_said k (s ∷ event) =
-    if_said (length event == 10) (option_or (why_id field.Service k s) (why_event (k + 1) event)) (Some (FieldCount word.Put (length event + 1)))
+    if_said (is_event_count (length event)) (option_or (why_id field.Service k s) (why_event (k + 1) event)) (Some (FieldCount word.Put (length event + 1)))
     (then_said (is_some (number_in 0 65535 s)) (BadField field.Service k) (why_event (k + 1) event) tt (event_said (k + 1) event)) tt
 
 withdraw_said : (k : ℕ) (fields : List (List ℕ)) → IsSaid (why_withdraw k fields)
@@ -147,7 +152,7 @@ item_said : (fields : List (List ℕ)) → IsSaid (why_item fields)
 item_said [] = tt
 item_said (w ∷ fields) =
     if_said (is_word (codes "item") w) (why_event_fields fields) (Some NoItem)
-    (if_said (length fields == 10) (why_event 2 fields) (Some (FieldCount word.Item (length fields))) (event_said 2 fields) tt) tt
+    (if_said (is_event_count (length fields)) (why_event 2 fields) (Some (FieldCount word.Item (length fields))) (event_said 2 fields) tt) tt
 
 unread_said : (line : List ℕ) → IsSaid (why_unread line)
 unread_said line =

@@ -120,6 +120,7 @@ field_printing field.Count = refl
 field_printing field.Country = refl
 field_printing field.Rating = refl
 field_printing field.Genres = refl
+field_printing field.Descriptors = refl
 
 fault_printing : (name : FieldName) → all_printing (fault_text name) ≡ true
 fault_printing field.Moment = refl
@@ -133,6 +134,7 @@ fault_printing field.Count = refl
 fault_printing field.Country = refl
 fault_printing field.Rating = refl
 fault_printing field.Genres = refl
+fault_printing field.Descriptors = refl
 
 numbered_printing : (k : ℕ) (is : List ℕ) → all_printing is ≡ true → all_printing (codes "field " ++ decimal k ++ is) ≡ true
 numbered_printing k is h = both (codes "field " ++ decimal k) is (both (codes "field ") (decimal k) refl (number_printing k)) h

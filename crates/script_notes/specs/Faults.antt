@@ -1,12 +1,12 @@
 -- Why a line is at fault in its place, by its bytes and by its fields.
-use Rattle.std.specs.Prelude.{ℕ, ◌+◌, ◌==◌, Bool, not, nat_le, List, [], ◌∷◌, length, Option, Some, None, is_some, if◌then◌else◌, codes, find}
+use Rattle.std.specs.Prelude.{ℕ, ◌+◌, ◌==◌, ◌||◌, Bool, not, nat_le, List, [], ◌∷◌, length, Option, Some, None, is_some, if◌then◌else◌, codes, find}
 use Rattle.std.specs.Option.{option_or}
 use Rattle.std.specs.Str.{is_utf8}
 use Rattle.guide_model.specs.Control.{has_control}
 use Rattle.si_time.specs.Readings.{has_shape, moment_in}
 use Rattle.input_lines.specs.Fields.{line_fields}
 use Rattle.input_lines.specs.Numbers.{is_word, number_in}
-use Rattle.script_lines.specs.Items.{genres_of}
+use Rattle.script_lines.specs.Items.{further_of, genres_of}
 use Rattle.script_lines.specs.Outcomes.{outcome_of_fields}
 use Rattle.script_lines.specs.Script.{caller_of}
 use Rattle.script_notes.specs.declared.why.LineWord.{LineWord}
@@ -40,13 +40,22 @@ why_rating k [] [] = None
 why_rating k [] (v ∷ vs) = Some (BadField field.Country k)
 why_rating k (c ∷ cs) rating = unless (is_some (number_in 0 255 rating)) (BadField field.Rating (k + 1))
 
--- EVENT,START,DURATION,LANGUAGE,NAME,SHORT,EXTENDED,COUNTRY,RATING,GENRES, where they are so many
+-- GENRES is field k, and DESCRIPTORS, where it stands, the next one
+abbrev pub why_listed : ℕ → List ℕ → List (List ℕ) → Option Why
+why_listed k genres further =
+    option_or (unless (is_some (genres_of genres)) (BadField field.Genres k)) (unless (is_some (further_of further)) (BadField field.Descriptors (k + 1)))
+
+-- an event has ten fields, or one more
+abbrev pub is_event_count : ℕ → Bool
+is_event_count n = n == 10 || n == 11
+
+-- EVENT,START,DURATION,LANGUAGE,NAME,SHORT,EXTENDED,COUNTRY,RATING,GENRES,DESCRIPTORS, where they are so many
 unfoldable pub why_event : ℕ → List (List ℕ) → Option Why
-why_event k (event ∷ start ∷ duration ∷ language ∷ name ∷ short ∷ extended ∷ country ∷ rating ∷ genres ∷ []) =
+why_event k (event ∷ start ∷ duration ∷ language ∷ name ∷ short ∷ extended ∷ country ∷ rating ∷ genres ∷ further) =
     option_or (why_id field.Event k event)
     (option_or (unless (has_shape (codes "dddd-dd-ddTdd:dd:ddZ") start) (BadField field.Start (k + 1)))
     (option_or (unless (has_shape (codes "dd:dd:dd") duration) (BadField field.Duration (k + 2)))
-    (option_or (why_rating (k + 7) country rating) (unless (is_some (genres_of genres)) (BadField field.Genres (k + 9))))))
+    (option_or (why_rating (k + 7) country rating) (why_listed (k + 9) genres further))))
 why_event k fields = None
 
 -- nothing
@@ -63,7 +72,7 @@ why_tick k fields = Some (FieldCount word.Tick (length fields))
 abbrev pub why_put : ℕ → List (List ℕ) → Option Why
 why_put k [] = Some (FieldCount word.Put 0)
 why_put k (service ∷ event) =
-    if length event == 10 then option_or (why_id field.Service k service) (why_event (k + 1) event)
+    if is_event_count (length event) then option_or (why_id field.Service k service) (why_event (k + 1) event)
     else Some (FieldCount word.Put (length event + 1))
 
 -- SERVICE,EVENT
@@ -91,7 +100,7 @@ why_day k fields = Some (FieldCount word.Day (length fields))
 
 -- the fields of an event behind `item`
 abbrev pub why_event_fields : List (List ℕ) → Option Why
-why_event_fields fields = if length fields == 10 then why_event 2 fields else Some (FieldCount word.Item (length fields))
+why_event_fields fields = if is_event_count (length fields) then why_event 2 fields else Some (FieldCount word.Item (length fields))
 
 -- ---- the word, which is field k, and what stands behind it
 

@@ -22,7 +22,7 @@ word_text word.Name = codes "name"
 word_text word.Day = codes "day"
 word_text word.Item = codes "item"
 
--- how many fields stand behind it
+-- how many fields stand after it, without that of the descriptors of an event
 abbrev pub fields_behind : LineWord → ℕ
 fields_behind word.Publish = 0
 fields_behind word.Swap = 0
@@ -51,6 +51,7 @@ field_text field.Count = codes "count"
 field_text field.Country = codes "country"
 field_text field.Rating = codes "rating"
 field_text field.Genres = codes "genres"
+field_text field.Descriptors = codes "descriptors"
 
 -- what is wrong with a field
 abbrev pub fault_text : FieldName → List ℕ
@@ -65,6 +66,7 @@ fault_text field.Count = codes "no number from 0 to 2000"
 fault_text field.Country = codes "empty beside a rating"
 fault_text field.Rating = codes "no number from 0 to 255"
 fault_text field.Genres = codes "no list of a.b.u"
+fault_text field.Descriptors = codes "no list of descriptors in hex"
 
 -- why a line is at fault, in words
 abbrev pub why_text : Why → List ℕ

@@ -29,6 +29,7 @@ pub enum FieldName {
     Country,
     Rating,
     Genres,
+    Descriptors,
 }
 
 /// Why a script line is at fault in its place. A field has its number in the line, from 1.

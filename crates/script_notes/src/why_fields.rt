@@ -1,13 +1,13 @@
 // Why the fields of a line are no command, no outcome or no item.
 ghost use Rattle.std.specs.Prelude.{◌≡◌, ◌≤◌, IfOk, Some, length};
 ghost use Rattle.script_notes.specs.declared.why.Why.TheVariants.{FieldCount};
-ghost use Rattle.script_notes.specs.Faults.{unless, why_clear, why_command, why_day, why_edit, why_event, why_event_fields, why_feed, why_fields, why_id, why_item, why_name, why_nothing, why_of_edit, why_of_step, why_outcome, why_put, why_rating, why_step, why_tick, why_withdraw};
+ghost use Rattle.script_notes.specs.Faults.{is_event_count, unless, why_clear, why_command, why_day, why_edit, why_event, why_event_fields, why_feed, why_fields, why_id, why_item, why_listed, why_name, why_nothing, why_of_edit, why_of_step, why_outcome, why_put, why_rating, why_step, why_tick, why_withdraw};
 
 use crate::why::{FieldName, LineWord, Why};
 use crate::words::word_named;
 use guide_model::Txt;
 use input_lines::{is_word, number};
-use script_lines::{read_caller, read_genres, read_outcome};
+use script_lines::{read_caller, read_further, read_genres, read_outcome};
 use si_time::{has_shape, read_moment};
 use std::alloc::{AllocError, Global};
 
@@ -51,20 +51,42 @@ fn why_rating(k: u64, country: &Txt, rating: &Txt) -> Option<Why>
     )
 }
 
+// Whether an event has so many fields.
+fn is_event_count(fields: &[Txt]) -> bool
+    ensures { result ≡ is_event_count (length fields.now) }
+{
+    fields.len() == 10 || fields.len() == 11
+}
+
+// The genres of an event, which are field k, and the field after them.
+fn why_listed(
+    alloc: Global,
+    k: u64,
+    genres: &Txt,
+    further: &[Txt],
+) -> Result<Option<Why>, AllocError>
+    requires { k ≤ 100 }
+    ensures { IfOk result (λ why. why ≡ why_listed k genres.now further.now) }
+{
+    let listed = read_genres(alloc, genres.as_str())?.is_some();
+    let described = read_further(alloc, further)?.is_some();
+    let descriptor = unless(described, Why::BadField(FieldName::Descriptors, k + 1));
+    Ok(unless(listed, Why::BadField(FieldName::Genres, k)).or(descriptor))
+}
+
 // The fields of an event, where they are so many.
 #[tactic(auto, unfolding(crate::specs::Faults::why_event))]
 fn why_event(alloc: Global, k: u64, fields: &[Txt]) -> Result<Option<Why>, AllocError>
     requires { k ≤ 50 }
     ensures { IfOk result (λ why. why ≡ why_event k fields.now) }
 {
-    let [event, start, duration, _, _, _, _, country, rating, genres] = fields else {
+    let [event, start, duration, _, _, _, _, country, rating, genres, further @ ..] = fields else {
         return Ok(None);
     };
-    let listed = read_genres(alloc, genres.as_str())?.is_some();
+    let listed = why_listed(alloc, k + 9, genres, further)?;
     let starts = has_shape(b"dddd-dd-ddTdd:dd:ddZ", start.as_str().as_bytes());
     let lasts = has_shape(b"dd:dd:dd", duration.as_str().as_bytes());
-    let genre = unless(listed, Why::BadField(FieldName::Genres, k + 9));
-    let rated = why_rating(k + 7, country, rating).or(genre);
+    let rated = why_rating(k + 7, country, rating).or(listed);
     let length = unless(lasts, Why::BadField(FieldName::Duration, k + 2)).or(rated);
     let stamp = unless(starts, Why::BadField(FieldName::Start, k + 1)).or(length);
     Ok(why_id(FieldName::Event, k, event).or(stamp))
@@ -96,7 +118,7 @@ fn why_put(alloc: Global, k: u64, fields: &[Txt]) -> Result<Option<Why>, AllocEr
     let [service, event @ ..] = fields else {
         return Ok(Some(Why::FieldCount(LineWord::Put, 0)));
     };
-    if event.len() != 10 {
+    if !is_event_count(event) {
         return Ok(Some(Why::FieldCount(LineWord::Put, event.len() as u64 + 1)));
     }
     let why = why_event(alloc, k + 1, event)?;
@@ -255,7 +277,7 @@ pub(crate) fn why_fields(
 fn why_event_fields(alloc: Global, fields: &[Txt]) -> Result<Option<Why>, AllocError>
     ensures { IfOk result (λ why. why ≡ why_event_fields fields.now) }
 {
-    if fields.len() != 10 {
+    if !is_event_count(fields) {
         return Ok(miscounted(LineWord::Item, fields));
     }
     why_event(alloc, 2, fields)

@@ -51,6 +51,7 @@ fn name_of(field: FieldName) -> &'static str
         FieldName::Country => "country",
         FieldName::Rating => "rating",
         FieldName::Genres => "genres",
+        FieldName::Descriptors => "descriptors",
     }
 }
 
@@ -69,6 +70,7 @@ fn fault_of(field: FieldName) -> &'static str
         FieldName::Country => "empty beside a rating",
         FieldName::Rating => "no number from 0 to 255",
         FieldName::Genres => "no list of a.b.u",
+        FieldName::Descriptors => "no list of descriptors in hex",
     }
 }
 

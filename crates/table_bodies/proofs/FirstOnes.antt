@@ -25,7 +25,7 @@ without_front tag read whole d ds a says shown =
 
 -- ---- a list with no descriptor of the tag
 
-abbrev HasNone : ℕ → List RawDesc → Type 0
+abbrev pub HasNone : ℕ → List RawDesc → Type 0
 HasNone tag ds = AllByRecursion (λ (d : RawDesc). (d.tag == tag) ≡ false) ds
 
 pub none_first : {A : Type 0} (tag : ℕ) (read : List ℕ → Option A) (ds : List RawDesc) → HasNone tag ds → first_in tag read ds ≡ None

@@ -16,7 +16,9 @@ use Rattle.guide_model.specs.declared.event.Rating.{Rating}
 use Rattle.guide_model.specs.declared.screen.ScreenEvent.{ScreenEvent}
 use Rattle.descriptors.specs.ParentalRating.{HasThreeLetters}
 use Rattle.descriptors.specs.EventDescriptors.{event_descriptors, extended_events, content_of, rating_of}
+use Rattle.descriptors.specs.Descriptors.{descriptors_bytes}
 use Rattle.descriptors.specs.ShortEvent.{short_event}
+use Rattle.descriptors.proofs.Loops.{length-descriptors_bytes}
 use Rattle.descriptors.proofs.EventEntries.{length-parental_rating_body}
 use Rattle.descriptors.proofs.Pieces.{length-coded_text, length-content_of, length-extended_events, extended_size-small}
 use Rattle.guide_model.specs.declared.shown.Shown.TheVariants.{Text}
@@ -54,6 +56,7 @@ descriptors-small e p q =
     let text = coded_text e.short in
     let short = short_event (record { language = e.language; name = Text e.name; short = Text e.short }) in
     let extended = extended_events e.language e.extended in
+    let made = short ++ extended ++ content_of e.genres ++ rating_of e.rating in
     omega (
       arith,
       p.limits.name,
@@ -63,6 +66,9 @@ descriptors-small e p q =
       length-coded_text e.short,
       length-append (e.language ++ length name ∷ name) (length text ∷ text),
       length-append e.language (length name ∷ name),
+      length-append made (descriptors_bytes e.descriptors),
+      length-descriptors_bytes e.descriptors,
+      p.limits.room,
       length-append (short ++ extended ++ content_of e.genres) (rating_of e.rating),
       length-append (short ++ extended) (content_of e.genres),
       length-append short extended,

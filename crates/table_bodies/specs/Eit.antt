@@ -2,6 +2,7 @@
 use Rattle.std.specs.Prelude.{◌≡◌, ℕ, ◌*◌, ◌<◌, Bool, nat_le, if◌then◌else◌, List, [], ◌∷◌, ◌++◌, length, drop, map, slice_index}
 use Rattle.std.specs.Prelude.{Option, Some, None, IfSome, is_some, option_map}
 use Rattle.std.specs.List.{flat_map, All}
+use Rattle.std.specs.Option.{option_or}
 use Rattle.si_base.specs.Fields.{two, two_at}
 use Rattle.si_time.specs.Moments.{moment_bcd, duration_bcd}
 use Rattle.si_time.specs.Readings.{moment_from_bcd, duration_from_bcd}
@@ -10,11 +11,12 @@ use Rattle.guide_model.specs.Decoding.{IsKept}
 use Rattle.guide_model.specs.declared.event.Event.{Event}
 use Rattle.guide_model.specs.declared.screen.ScreenEvent.{ScreenEvent}
 use Rattle.descriptors.specs.EventDescriptors.{event_descriptors, entry_size, IsWithinLimits}
-use Rattle.descriptors.specs.ParentalRating.{HasThreeLetters}
+use Rattle.descriptors.specs.First.{without_first}
+use Rattle.descriptors.specs.ParentalRating.{HasThreeLetters, is_one_rating, parental_rating_in}
 use Rattle.table_bodies.specs.declared.eit.EitHead.{EitHead}
 use Rattle.table_bodies.specs.declared.eit.Eit.{Eit}
 use Rattle.table_bodies.specs.Entries.{TableEntry, entry_bytes, Reads, made, entries_in}
-use Rattle.table_bodies.specs.ShownEvent.{event_of}
+use Rattle.table_bodies.specs.ShownEvent.{event_of, rating_of}
 
 -- ---- written
 
@@ -76,7 +78,8 @@ is_eit_body body = is_some (eit_in body)
 abbrev pub EntryHasItsSize : Type 0
 EntryHasItsSize = (status : ℕ) (event : Event) → length (written_bytes status event) ≡ entry_size event
 
--- what a receiver shows of an event: all its texts as text, and no further descriptor
+-- what a receiver shows of an event: all its texts as text, and its further descriptors; a rating among them is that of the event,
+-- and stands no longer among them where it is of one country
 abbrev pub shown_event : Event → ScreenEvent
 shown_event e = record {
   id = e.id;
@@ -86,9 +89,9 @@ shown_event e = record {
   name = Text e.name;
   short = Text e.short;
   extended = Text e.extended;
-  rating = e.rating;
+  rating = option_or e.rating (rating_of e.descriptors);
   genres = e.genres;
-  descriptors = [];
+  descriptors = without_first 0x55 parental_rating_in is_one_rating e.descriptors;
 }
 
 -- what each value of the type Event has: an id of 16 bits, codes of three letters, and texts that may be kept

@@ -25,6 +25,7 @@ news = record {
   extended = [];
   rating = None;
   genres = [];
+  descriptors = [];
 }
 
 abbrev head : EitHead
@@ -127,3 +128,19 @@ first_content = refl
 
 first_of_two : rating_of (record { tag = 0x55; body = codes "GBR" ++ 5 ∷ codes "FRA" ++ 6 ∷ [] } ∷ []) ≡ Some (record { country = codes "GBR"; value = 5 })
 first_of_two = refl
+
+-- ---- an event with further descriptors: a rating of one country is the event's, one of two countries stays, and so do others
+
+abbrev rated : List ℕ → RawDesc
+rated body = record { tag = 0x55; body = body }
+
+abbrev crid : RawDesc
+crid = record { tag = 0x76; body = 0xC4 ∷ 0x03 ∷ 0x2F ∷ 0x45 ∷ 0x37 ∷ [] }
+
+one_country : shown_event (record news { descriptors = crid ∷ rated (codes "DEU" ++ 9 ∷ []) ∷ [] })
+    ≡ record (shown_event news) { rating = Some (record { country = codes "DEU"; value = 9 }); descriptors = crid ∷ [] }
+one_country = refl
+
+two_countries : shown_event (record news { descriptors = rated (codes "DEU" ++ 9 ∷ codes "AUT" ++ 9 ∷ []) ∷ crid ∷ [] })
+    ≡ record (shown_event news) { rating = Some (record { country = codes "DEU"; value = 9 }); descriptors = rated (codes "DEU" ++ 9 ∷ codes "AUT" ++ 9 ∷ []) ∷ crid ∷ [] }
+two_countries = refl

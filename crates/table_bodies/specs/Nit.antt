@@ -9,9 +9,9 @@ use Rattle.guide_model.specs.declared.shown.Shown.{Shown}
 use Rattle.guide_model.specs.declared.shown.Shown.TheVariants.{Text}
 use Rattle.guide_model.specs.declared.stream.Cable.{Cable}
 use Rattle.guide_model.specs.declared.descriptor.RawDesc.{RawDesc}
-use Rattle.guide_model.specs.Descriptors.{descriptors_size}
+use Rattle.guide_model.specs.Descriptors.{FitsDescriptor, descriptors_size}
 use Rattle.descriptors.specs.declared.service_list.ServiceKind.{ServiceKind}
-use Rattle.descriptors.specs.Descriptors.{descriptors_bytes, FitsDescriptor}
+use Rattle.descriptors.specs.Descriptors.{descriptors_bytes}
 use Rattle.descriptors.specs.CableDelivery.{cable_delivery_system, cable_in, FitsCable}
 use Rattle.descriptors.specs.NetworkName.{network_name, name_read}
 use Rattle.descriptors.specs.ServiceList.{service_list, service_list_in}

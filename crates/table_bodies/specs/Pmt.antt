@@ -7,8 +7,8 @@ use Rattle.si_base.specs.Fields.{two, two_at}
 use Rattle.guide_model.specs.declared.stream.Component.{Component}
 use Rattle.guide_model.specs.declared.screen.ScreenComponent.{ScreenComponent}
 use Rattle.guide_model.specs.declared.descriptor.RawDesc.{RawDesc}
-use Rattle.guide_model.specs.Descriptors.{descriptors_size}
-use Rattle.descriptors.specs.Descriptors.{descriptors_bytes, FitsDescriptor}
+use Rattle.guide_model.specs.Descriptors.{FitsDescriptor, descriptors_size}
+use Rattle.descriptors.specs.Descriptors.{descriptors_bytes}
 use Rattle.descriptors.specs.Languages.{iso_639_language, languages_in, is_one_language}
 use Rattle.table_bodies.specs.Entries.{TableEntry, entry_bytes, Reads, made, split_in, value_in, entries_in}
 use Rattle.descriptors.specs.First.{first_in, without_first}

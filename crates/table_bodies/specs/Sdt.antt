@@ -7,9 +7,9 @@ use Rattle.si_base.specs.Fields.{two, two_at}
 use Rattle.guide_model.specs.Decoding.{shown_bytes}
 use Rattle.guide_model.specs.declared.shown.Shown.TheVariants.{Text}
 use Rattle.guide_model.specs.declared.descriptor.RawDesc.{RawDesc}
-use Rattle.guide_model.specs.Descriptors.{descriptors_size}
+use Rattle.guide_model.specs.Descriptors.{FitsDescriptor, descriptors_size}
 use Rattle.descriptors.specs.declared.service.ServiceText.{ServiceText}
-use Rattle.descriptors.specs.Descriptors.{descriptors_bytes, FitsDescriptor}
+use Rattle.descriptors.specs.Descriptors.{descriptors_bytes}
 use Rattle.descriptors.specs.Service.{service_descriptor, service_in, HasShownNames}
 use Rattle.table_bodies.specs.Entries.{TableEntry, entry_bytes, Reads, entries_in}
 use Rattle.descriptors.specs.First.{first_in, without_first, always}

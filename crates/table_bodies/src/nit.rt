@@ -4,7 +4,7 @@ ghost use Rattle.std.specs.List.{All, flat_map};
 ghost use Rattle.std.proofs.Common.{lit<};
 ghost use Rattle.guide_model.specs.Decoding.{shown_bytes};
 ghost use Rattle.descriptors.specs.CableDelivery.{FitsCable};
-ghost use Rattle.descriptors.specs.Descriptors.{FitsDescriptor};
+ghost use Rattle.guide_model.specs.Descriptors.{FitsDescriptor};
 ghost use Rattle.table_bodies.specs.Entries.{entry_bytes};
 ghost use Rattle.descriptors.specs.ServiceList.{service_list_in};
 ghost use Rattle.descriptors.specs.First.{always, without_first};

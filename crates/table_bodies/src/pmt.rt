@@ -2,8 +2,7 @@
 ghost use Rattle.std.specs.Prelude.{◌≡◌, ◌<◌, ◌≤◌, ◌++◌, List, ℕ, Option, length, is_some, IfOk, OnOk};
 ghost use Rattle.std.specs.List.{All, flat_map};
 ghost use Rattle.std.proofs.Common.{lit<};
-ghost use Rattle.guide_model.specs.Descriptors.{descriptors_size};
-ghost use Rattle.descriptors.specs.Descriptors.{FitsDescriptor};
+ghost use Rattle.guide_model.specs.Descriptors.{FitsDescriptor, descriptors_size};
 ghost use Rattle.table_bodies.specs.Pmt.{IsWritable, component_bytes, component_in, further_of_component, language_descriptors, language_of, pmt_body, pmt_in, program_entry};
 ghost use Rattle.table_bodies.specs.Entries.{entry_bytes};
 

@@ -4,7 +4,7 @@ ghost use Rattle.std.specs.List.{All};
 ghost use Rattle.descriptors.specs.Content.{HasNibbles};
 ghost use Rattle.table_bodies.specs.Eit.{IsCodable};
 
-use guide_model::{Event, Genre, Genres, Rating, ScreenEvent, Txt, coded_len};
+use guide_model::{Event, Genre, Genres, Rating, RawDescs, ScreenEvent, Txt, coded_len};
 use row_lines::{
     MOST, Row, code, code_in, duration, moment, put_code, put_shown, repeated, say, text, text_of,
 };
@@ -12,8 +12,8 @@ use si_base::Items;
 use si_time::{Moment, write_duration, write_moment};
 use std::fmt::Write;
 
-/// An event: its id, start, duration and language, its name and its short and extended text, its rating or `-`, and its genres or
-/// `-`, with bars between.
+/// An event without further descriptors: its id, start, duration and language, its name and its short and extended text, its
+/// rating or `-`, and its genres or `-`, with bars between.
 pub fn event(row: &mut Row) -> Option<Event> {
     let id = row.short();
     row.pass("|");
@@ -38,6 +38,7 @@ pub fn event(row: &mut Row) -> Option<Event> {
         extended,
         rating,
         genres: genres(row),
+        descriptors: RawDescs::new(row.alloc()),
     })
 }
 
@@ -105,7 +106,7 @@ pub fn have_nibbles(genres: &[Genre]) -> bool
         .all(|genre| genre.level1 < 16 && genre.level2 < 16)
 }
 
-/// Whether an event can be coded.
+/// Whether an event without further descriptors can be coded; of another one no.
 pub fn is_codable(event: &Event) -> bool
     ensures { IsTrue result → IsCodable event.now }
 {
@@ -116,6 +117,7 @@ pub fn is_codable(event: &Event) -> bool
         && event.extended.as_str().len() <= 1000
         && event.genres.len() <= 8
         && have_nibbles(event.genres.as_slice())
+        && event.descriptors.is_empty()
 }
 
 /// Appends an event that is shown.

@@ -8,5 +8,5 @@ use Rattle.publication.proofs.events.events_at.Given as goal
 abbrev pub invariant-loop-event : goal.invariant-loop-event
 invariant-loop-event l = record {
   events : l.at.items ≡ map at_of (take l.event-index l.events);
-  small : All (λ (e : EventAt). e.size ≤ 1338) l.at.items;
+  small : All (λ (e : EventAt). e.size ≤ 1578) l.at.items;
 }

@@ -1,7 +1,7 @@
 use Rattle.std.proofs.Common.{sym, ap, subst, arith, sum_by}
 use Rattle.std.specs.List.{All}
 use Rattle.table_bodies.specs.declared.nit.Nit.{Nit}
-use Rattle.descriptors.specs.Descriptors.{FitsDescriptor}
+use Rattle.guide_model.specs.Descriptors.{FitsDescriptor}
 use Rattle.table_bodies.specs.Nit.{FitsStream, HasNetworkRoom, stream_size}
 use Rattle.publication.proofs.ProgramFacts.{network_bodies, network_fits, streams_fit, streams_short}
 use Rattle.publication.proofs.network.nit_table.Goals as goal

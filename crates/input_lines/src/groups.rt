@@ -1,6 +1,6 @@
 // Further descriptors as a text.
 ghost use Rattle.std.specs.Prelude.{◌≡◌, IfOk};
-ghost use Rattle.mux_lines.specs.Groups.{descriptor_of, descriptor_in, descriptors_in};
+ghost use Rattle.input_lines.specs.Groups.{descriptor_of, descriptor_in, descriptors_in};
 
 use guide_model::{RawDesc, RawDescs};
 use hex::FromHexError;
@@ -34,8 +34,10 @@ fn descriptor_in(alloc: Global, group: &str) -> Result<Option<RawDesc>, AllocErr
     }
 }
 
-/// The descriptors of the groups of a field, where each is one.
-pub(crate) fn descriptors_in(alloc: Global, field: &str) -> Result<Option<RawDescs>, AllocError>
+/// The descriptors of a field: groups with one space between, each an even number of hexadecimal digits of either case that
+/// spell a descriptor_tag, a descriptor_length and just so many bytes (ISO/IEC 13818-1, 2.6). `None` comes exactly where
+/// the field is no such list.
+pub fn descriptors_in(alloc: Global, field: &str) -> Result<Option<RawDescs>, AllocError>
     ensures { IfOk result (λ found. found ≡ descriptors_in field.now) }
 {
     let mut descriptors = RawDescs::new(alloc);

@@ -1,4 +1,4 @@
--- Further descriptors as a text: groups of hexadecimal digits with one space between, each of them a descriptor_tag, a descriptor_length
+-- Descriptors as a text: groups of hexadecimal digits with one space between, each of them a descriptor_tag, a descriptor_length
 -- and just so many bytes (ISO/IEC 13818-1, 2.6).
 use Rattle.std.specs.Prelude.{ℕ, ◌==◌, List, [], ◌∷◌, length, Option, Some, None, if◌then◌else◌, option_map, option_and_then}
 use Rattle.std.specs.List.{slice_split}

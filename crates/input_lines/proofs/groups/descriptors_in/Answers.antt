@@ -3,9 +3,9 @@ use Rattle.std.specs.List.{slice_split}
 use Rattle.std.proofs.lemmas.List.{map-append}
 use Rattle.std.proofs.lemmas.Iterator.Splits.{YieldsList-from_str_split}
 use Rattle.std.proofs.lemmas.Iterator.Consumers.{YieldsList-turn, YieldsList-end}
-use Rattle.mux_lines.specs.Groups.{each_in}
-use Rattle.mux_lines.proofs.GroupFacts.{each_more, each_none, some}
-use Rattle.mux_lines.proofs.groups.descriptors_in.Goals as goal
+use Rattle.input_lines.specs.Groups.{each_in}
+use Rattle.input_lines.proofs.GroupFacts.{each_more, each_none, some}
+use Rattle.input_lines.proofs.groups.descriptors_in.Goals as goal
 
 pub returns-in_default : goal.returns-in_default
 returns-in_default c =
