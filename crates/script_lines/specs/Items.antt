@@ -68,6 +68,17 @@ further_of [] = Some []
 further_of (field ∷ []) = descriptors_of field
 further_of fields = None
 
+-- these three, where each is there
+abbrev pub all_three : {A B C : Type 0} → Option A → Option B → Option C → Option (A × B × C)
+all_three (Some a) (Some b) (Some c) = Some (a, b, c)
+all_three a b c = None
+
+-- what stands after the texts of an event: its rating, its genres and its further descriptors
+abbrev pub after_texts : List (List ℕ) → Option (Option RawRating × List Genre × List RawDesc)
+after_texts (event ∷ start ∷ length ∷ language ∷ name ∷ short ∷ extended ∷ country ∷ rating ∷ genres ∷ further) =
+    all_three (rating_of country rating) (genres_of genres) (further_of further)
+after_texts fields = None
+
 -- the event of these texts and values, where each value is there
 abbrev pub item_with : List ℕ → List ℕ → List ℕ → List ℕ → Option ℕ → Option Stamp → Option Length → Option (Option RawRating) → Option (List Genre)
     → Option (List RawDesc) → Option Item

@@ -1,6 +1,6 @@
 // Events in the fields of a line.
 ghost use Rattle.std.specs.Prelude.{◌≡◌, IfOk, IfSome, map};
-ghost use Rattle.script_lines.specs.Items.{day_of, descriptors_of, further_of, genre_from, genre_of, genres_of, item_line, item_of, length_of, rating_of, stamp_of};
+ghost use Rattle.script_lines.specs.Items.{after_texts, day_of, descriptors_of, further_of, genre_from, genre_of, genres_of, item_line, item_of, length_of, rating_of, stamp_of};
 ghost use Rattle.journal_model.specs.Edits.{IsShapedItem};
 
 use guide_model::{Genre, Genres, RawDescs, Txt};
@@ -133,26 +133,35 @@ pub fn read_further(alloc: Global, fields: &[Txt]) -> Result<Option<RawDescs>, A
     read_descriptors(alloc, field.as_str())
 }
 
+// What stands after the texts of an event: its rating, its genres and its further descriptors.
+fn read_after_texts(
+    alloc: Global,
+    fields: &[Txt],
+) -> Result<Option<(Option<RawRating>, Genres, RawDescs)>, AllocError>
+    ensures { IfOk result (λ found. found ≡ after_texts fields.now) }
+{
+    let [_, _, _, _, _, _, _, country, value, groups, further @ ..] = fields else {
+        return Ok(None);
+    };
+    let Some(rating) = read_rating(country, value)? else {
+        return Ok(None);
+    };
+    let Some(genres) = read_genres(alloc, groups.as_str())? else {
+        return Ok(None);
+    };
+    let Some(descriptors) = read_further(alloc, further)? else {
+        return Ok(None);
+    };
+    Ok(Some((rating, genres, descriptors)))
+}
+
 // The event of ten fields, or of one more.
 #[tactic(auto, unfolding(crate::specs::Items::item_of))]
 pub(crate) fn read_item(alloc: Global, fields: &[Txt]) -> Result<Option<Item>, AllocError>
     ensures value { IfOk result (λ found. found ≡ item_of fields.now) }
     ensures shaped { IfOk result (λ found. IfSome found IsShapedItem) }
 {
-    let [
-        event,
-        start,
-        duration,
-        language,
-        name,
-        short,
-        extended,
-        country,
-        value,
-        groups,
-        further @ ..,
-    ] = fields
-    else {
+    let [event, start, duration, language, name, short, extended, ..] = fields else {
         return Ok(None);
     };
     let Some(id) = number(event.as_str(), 0, 65535) else {
@@ -164,13 +173,7 @@ pub(crate) fn read_item(alloc: Global, fields: &[Txt]) -> Result<Option<Item>, A
     let Some(length) = read_length(duration.as_str().as_bytes()) else {
         return Ok(None);
     };
-    let Some(rating) = read_rating(country, value)? else {
-        return Ok(None);
-    };
-    let Some(genres) = read_genres(alloc, groups.as_str())? else {
-        return Ok(None);
-    };
-    let Some(descriptors) = read_further(alloc, further)? else {
+    let Some((rating, genres, descriptors)) = read_after_texts(alloc, fields)? else {
         return Ok(None);
     };
     Ok(Some(Item {

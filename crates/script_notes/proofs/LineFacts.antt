@@ -1,17 +1,17 @@
 -- What is asked of a line and of its fields.
-use Rattle.std.proofs.Common.{◌≡◌, ◌∙◌, ◌<◌, ◌≤◌, ◌+◌, ℕ, true, false, List, [], ◌∷◌, length, drop, get_or, refl, ap, inl, inr, arith}
+use Rattle.std.proofs.Common.{◌≡◌, ◌∙◌, ◌<◌, ◌≤◌, ◌+◌, ℕ, true, false, ◌-◌, List, [], ◌∷◌, length, take, drop, length-drop, get_or, refl, ap, inl, inr, arith}
 use Rattle.std.specs.Prelude.{Option, Some, None, is_some, option_map, codes, nat_le}
 use Rattle.std.specs.Option.{option_or}
 use Rattle.std.specs.Str.{IsUtf8, is_utf8}
 use Rattle.std.proofs.lemmas.Bool.{cases_Bool}
 use Rattle.std.proofs.lemmas.Bool.Decides.{nat_tests}
+use Rattle.std.proofs.lemmas.List.{take_all}
 use Rattle.std.proofs.lemmas.Str.{is_utf8-from_IsUtf8, IsUtf8-from_is_utf8}
 use Rattle.guide_model.specs.Control.{has_control}
 use Rattle.si_time.specs.Readings.{has_shape}
 use Rattle.si_time.specs.declared.moment.Moment.{Moment}
 use Rattle.script_notes.specs.declared.why.FieldName.TheVariants as field
 use Rattle.script_notes.specs.declared.why.Why.TheVariants.{BadField, ControlCharacter, NotUtf8, TooLong}
-use Rattle.script_lines.proofs.EventFields.{after_ten, rest_of_ten}
 use Rattle.script_notes.specs.Faults.{unless, why_event, why_id, why_listed, why_rating, why_unread}
 
 short_enough : (n : ℕ) → n ≤ 16384 → nat_le n 16384 ≡ true
@@ -45,6 +45,10 @@ same_some r o e = is r ∙ ap is_some e
 abbrev Text : Type 0
 Text = List ℕ
 
+-- what stands after ten elements, as a pattern names it
+abbrev pub rest_of_ten : List Text → List Text
+rest_of_ten xs = take (length xs - 10) (drop 10 xs)
+
 -- the ten fields of an event, and those after them
 event_by : (k : ℕ) (xs : List Text) (a b c h i j : Text) (more : List Text) → 10 ≤ length xs
     → a ≡ get_or xs 0 a → b ≡ get_or xs 1 b → c ≡ get_or xs 2 c → h ≡ get_or xs 7 h → i ≡ get_or xs 8 i → j ≡ get_or xs 9 j → more ≡ drop 10 xs
@@ -62,4 +66,4 @@ pub event_is : (k : ℕ) (xs : List Text) (a b c h i j : Text) → 10 ≤ length
     (option_or (unless (has_shape (codes "dddd-dd-ddTdd:dd:ddZ") b) (BadField field.Start (k + 1)))
     (option_or (unless (has_shape (codes "dd:dd:dd") c) (BadField field.Duration (k + 2)))
     (option_or (why_rating (k + 7) h i) (why_listed (k + 9) j (rest_of_ten xs)))))
-event_is k xs a b c h i j low ea eb ec eh ei ej = event_by k xs a b c h i j (rest_of_ten xs) low ea eb ec eh ei ej (after_ten xs)
+event_is k xs a b c h i j low ea eb ec eh ei ej = event_by k xs a b c h i j (rest_of_ten xs) low ea eb ec eh ei ej (take_all (length xs - 10) (drop 10 xs) (omega (arith, length-drop 10 xs)))

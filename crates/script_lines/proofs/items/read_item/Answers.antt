@@ -1,89 +1,61 @@
-use Rattle.std.proofs.Common.{◌≡◌, sym, ap, ◌∙◌, refl, arith}
+use Rattle.std.proofs.Common.{◌≡◌, sym, ◌∙◌, refl, arith}
 use Rattle.std.proofs.lemmas.Grind.{common_steps}
 use Rattle.std.specs.Prelude.{None, Some}
 use Rattle.input_lines.specs.Numbers.{number_in}
-use Rattle.script_lines.specs.Items.{stamp_of, length_of, rating_of, genres_of, further_of, item_of}
-use Rattle.script_lines.proofs.EventFields.{rest_of_ten, item_is, no_start, no_length, no_rating, no_genres, no_descriptors}
+use Rattle.script_lines.specs.Items.{after_texts, stamp_of, length_of, item_of}
+use Rattle.script_lines.proofs.EventFields.{item_is, no_id, no_start, no_length}
 use Rattle.script_lines.proofs.Shapes.{item_shaped}
 use Rattle.script_lines.proofs.items.read_item.Goals as goal
 
 pub returns-in_default-number : goal.returns-in_default-number
-unfolding item_of
 returns-in_default-number c = record {
   value =
-      let item = item_is c.args.fields.now c.event-item.result c.start-item.result c.duration-item.result c.language-item.result c.name-item.result c.short-item.result c.extended-item.result c.country-item.result c.value-item.result c.groups-item.result
-      c.in-len10-up.len_at_least c.event-item.is c.start-item.is c.duration-item.is c.language-item.is c.name-item.is c.short-item.is c.extended-item.is c.country-item.is c.value-item.is c.groups-item.is in
+      let item = item_is c.args.fields.now c.event-item.result c.start-item.result c.duration-item.result c.language-item.result c.name-item.result c.short-item.result c.extended-item.result
+      c.in-len7-up.len_at_least c.event-item.is c.start-item.is c.duration-item.is c.language-item.is c.name-item.is c.short-item.is c.extended-item.is in
       let none : number_in 0 65535 c.event-item.result ≡ None = cc in
-      rw (item, none) refl;
+      rw (item, none, no_id) refl;
   shaped = grind (arith, common_steps);
 }
 
 pub returns-in_default-read_stamp : goal.returns-in_default-read_stamp
-unfolding item_of
 returns-in_default-read_stamp c = record {
   value =
-      let item = item_is c.args.fields.now c.event-item.result c.start-item.result c.duration-item.result c.language-item.result c.name-item.result c.short-item.result c.extended-item.result c.country-item.result c.value-item.result c.groups-item.result
-      c.in-len10-up.len_at_least c.event-item.is c.start-item.is c.duration-item.is c.language-item.is c.name-item.is c.short-item.is c.extended-item.is c.country-item.is c.value-item.is c.groups-item.is in
+      let item = item_is c.args.fields.now c.event-item.result c.start-item.result c.duration-item.result c.language-item.result c.name-item.result c.short-item.result c.extended-item.result
+      c.in-len7-up.len_at_least c.event-item.is c.start-item.is c.duration-item.is c.language-item.is c.name-item.is c.short-item.is c.extended-item.is in
       let none : stamp_of c.start-item.result ≡ None = cc in
       rw (item, none, no_start) refl;
   shaped = grind (arith, common_steps);
 }
 
 pub returns-in_default-read_length : goal.returns-in_default-read_length
-unfolding item_of
 returns-in_default-read_length c = record {
   value =
-      let item = item_is c.args.fields.now c.event-item.result c.start-item.result c.duration-item.result c.language-item.result c.name-item.result c.short-item.result c.extended-item.result c.country-item.result c.value-item.result c.groups-item.result
-      c.in-len10-up.len_at_least c.event-item.is c.start-item.is c.duration-item.is c.language-item.is c.name-item.is c.short-item.is c.extended-item.is c.country-item.is c.value-item.is c.groups-item.is in
+      let item = item_is c.args.fields.now c.event-item.result c.start-item.result c.duration-item.result c.language-item.result c.name-item.result c.short-item.result c.extended-item.result
+      c.in-len7-up.len_at_least c.event-item.is c.start-item.is c.duration-item.is c.language-item.is c.name-item.is c.short-item.is c.extended-item.is in
       let none : length_of c.duration-item.result ≡ None = cc in
       rw (item, none, no_length) refl;
   shaped = grind (arith, common_steps);
 }
 
 pub returns-in_default-2 : goal.returns-in_default-2
-unfolding item_of
 returns-in_default-2 c = record {
   value =
-      let item = item_is c.args.fields.now c.event-item.result c.start-item.result c.duration-item.result c.language-item.result c.name-item.result c.short-item.result c.extended-item.result c.country-item.result c.value-item.result c.groups-item.result
-      c.in-len10-up.len_at_least c.event-item.is c.start-item.is c.duration-item.is c.language-item.is c.name-item.is c.short-item.is c.extended-item.is c.country-item.is c.value-item.is c.groups-item.is in
-      let none : rating_of c.country-item.result c.value-item.result ≡ None = sym c.in_ok-rating.ensures ∙ c.in_default-2.is in
-      rw (item, none, no_rating) refl;
-  shaped = grind (arith, common_steps);
-}
-
-pub returns-in_default-3 : goal.returns-in_default-3
-unfolding item_of
-returns-in_default-3 c = record {
-  value =
-      let item = item_is c.args.fields.now c.event-item.result c.start-item.result c.duration-item.result c.language-item.result c.name-item.result c.short-item.result c.extended-item.result c.country-item.result c.value-item.result c.groups-item.result
-      c.in-len10-up.len_at_least c.event-item.is c.start-item.is c.duration-item.is c.language-item.is c.name-item.is c.short-item.is c.extended-item.is c.country-item.is c.value-item.is c.groups-item.is in
-      let none : genres_of c.groups-item.result ≡ None = sym (ap genres_of c.as_str-4.ensures.value) ∙ sym c.in_ok-genres.ensures ∙ c.in_default-3.is in
-      rw (item, none, no_genres) refl;
-  shaped = grind (arith, common_steps);
-}
-
-pub returns-in_default-4 : goal.returns-in_default-4
-unfolding item_of
-returns-in_default-4 c = record {
-  value =
-      let item = item_is c.args.fields.now c.event-item.result c.start-item.result c.duration-item.result c.language-item.result c.name-item.result c.short-item.result c.extended-item.result c.country-item.result c.value-item.result c.groups-item.result
-      c.in-len10-up.len_at_least c.event-item.is c.start-item.is c.duration-item.is c.language-item.is c.name-item.is c.short-item.is c.extended-item.is c.country-item.is c.value-item.is c.groups-item.is in
-      let none : further_of (rest_of_ten c.args.fields.now) ≡ None = sym c.in_ok-descriptors.ensures ∙ c.in_default-4.is in
-      rw (item, none, no_descriptors) refl;
+      let item = item_is c.args.fields.now c.event-item.result c.start-item.result c.duration-item.result c.language-item.result c.name-item.result c.short-item.result c.extended-item.result
+      c.in-len7-up.len_at_least c.event-item.is c.start-item.is c.duration-item.is c.language-item.is c.name-item.is c.short-item.is c.extended-item.is in
+      let none : after_texts c.args.fields.now ≡ None = sym c.in_ok-rating.ensures ∙ c.in_default-2.is in
+      rw (item, none) refl;
   shaped = grind (arith, common_steps);
 }
 
 pub returns-clause-value : goal.returns-clause-value
 returns-clause-value c =
-    let item = item_is c.args.fields.now c.event-item.result c.start-item.result c.duration-item.result c.language-item.result c.name-item.result c.short-item.result c.extended-item.result c.country-item.result c.value-item.result c.groups-item.result
-    c.in-len10-up.len_at_least c.event-item.is c.start-item.is c.duration-item.is c.language-item.is c.name-item.is c.short-item.is c.extended-item.is c.country-item.is c.value-item.is c.groups-item.is in
+    let item = item_is c.args.fields.now c.event-item.result c.start-item.result c.duration-item.result c.language-item.result c.name-item.result c.short-item.result c.extended-item.result
+    c.in-len7-up.len_at_least c.event-item.is c.start-item.is c.duration-item.is c.language-item.is c.name-item.is c.short-item.is c.extended-item.is in
     let id : number_in 0 65535 c.event-item.result ≡ Some c.in-Some.id = cc in
     let start : stamp_of c.start-item.result ≡ Some c.in-Some-read_stamp.start = cc in
     let length : length_of c.duration-item.result ≡ Some c.in-Some-read_length.length = cc in
-    let rating : rating_of c.country-item.result c.value-item.result ≡ Some c.in-Some-2.rating = sym c.in_ok-rating.ensures ∙ c.in-Some-2.is in
-    let genres : genres_of c.groups-item.result ≡ Some c.in-Some-3.genres = sym (ap genres_of c.as_str-4.ensures.value) ∙ sym c.in_ok-genres.ensures ∙ c.in-Some-3.is in
-    let descriptors : further_of (rest_of_ten c.args.fields.now) ≡ Some c.in-Some-4.descriptors = sym c.in_ok-descriptors.ensures ∙ c.in-Some-4.is in
-    rw (item, id, start, length, rating, genres, descriptors, c.in_ok-copy.ensures, c.in_ok-copy-2.ensures, c.in_ok-copy-3.ensures, c.in_ok-copy-4.ensures) refl
+    let after = sym c.in_ok-rating.ensures ∙ c.in-Some-2.is in
+    rw (item, id, start, length, after, c.in_ok-copy.ensures, c.in_ok-copy-2.ensures, c.in_ok-copy-3.ensures, c.in_ok-copy-4.ensures) refl
 
 pub returns-clause-shaped : goal.returns-clause-shaped
 returns-clause-shaped c = item_shaped c.args.fields.now _ (sym (returns-clause-value c))
