@@ -21,11 +21,9 @@ use Rattle.script_lines.proofs.EditBack.{edits_read_back}
 use Rattle.script_lines.proofs.EditTypes.{typed_numbers}
 use Rattle.journal_model.specs.declared.step.Step.{Step}
 use Rattle.journal_model.specs.declared.step.Step.TheVariants.{Edit as edit, Tick, Publish, Swap}
-use Rattle.journal_model.specs.declared.step.Outcome.{Outcome}
-use Rattle.journal_model.specs.declared.step.Entry.{Entry}
 use Rattle.script_lines.specs.Controls.{control_of}
 use Rattle.journal_model.specs.Steps.{IsStepWithin, IsTypedStep}
-use Rattle.script_lines.specs.declared.script.ScriptItem.TheVariants.{Step as step, Kept}
+use Rattle.script_lines.specs.declared.script.ScriptItem.TheVariants.{Step as step}
 use Rattle.journal_text.specs.Lines.{line_text, item_text, item_row, items_of}
 use Rattle.journal_text.specs.Commands.{command_text, step_fields, step_items}
 use Rattle.script_lines.specs.Script.{feed_of, feed_command, short_step, command_with, command_of_caller, command_by, read_command, kept_in, kept_item, step_item, read_item, item_on, first_script_item, IsShapedStep}

@@ -1,41 +1,18 @@
 -- Entries read back from their text.
-use Rattle.std.proofs.Common.{◌≡◌, ◌==◌, ◌∙◌, ◌<◌, ◌≤◌, ◌+◌, ◌*◌, ◌++◌, ◌∷◌, [], ℕ, List, Bool, Some, None, refl, ap, true, false, arith, length, map, append_assoc}
-use Rattle.std.specs.Prelude.{codes, decimal, flat_map, if◌then◌else◌}
-use Rattle.std.specs.List.{list_all, AllByRecursion}
-use Rattle.std.proofs.lemmas.Bool.Decides.{nat_tests}
-use Rattle.std.proofs.lemmas.List.Elements.{recursion_from_All}
-use Rattle.std.proofs.lemmas.Bool.{and_parts}
-use Rattle.si_time.specs.Moments.{moment_text}
-use Rattle.si_time.specs.declared.moment.Moment.{Moment}
-use Rattle.input_lines.specs.Fields.{record_of}
-use Rattle.input_lines.specs.Lines.{record_lines}
-use Rattle.input_lines.specs.Numbers.{is_word, is_digit}
-use Rattle.journal_model.specs.declared.edit.Item.{Item}
-use Rattle.journal_model.specs.declared.edit.Edit.{Edit}
-use Rattle.journal_model.specs.declared.edit.Edit.TheVariants.{Day}
-use Rattle.input_lines.specs.Ahead.{Ahead, Row, Tail, Came, and_then, on_line}
-use Rattle.script_lines.specs.Edits.{read_edit}
-use Rattle.journal_model.specs.Edits.{IsShapedItem, IsShaped, IsTypedItem, IsTypedEdit}
-use Rattle.script_lines.specs.EditFields.{HaveFields, edit_fields, item_rows}
-use Rattle.script_lines.proofs.EditBack.{edits_read_back}
-use Rattle.script_lines.proofs.EditTypes.{typed_numbers}
-use Rattle.journal_model.specs.declared.step.Step.{Step}
-use Rattle.journal_model.specs.declared.step.Step.TheVariants.{Edit as edit, Tick, Publish, Swap}
+use Rattle.std.proofs.Common.{◌≡◌, ◌∙◌, ◌+◌, ◌++◌, ◌∷◌, ℕ, List, ap, true, false, arith, length, append_assoc}
+use Rattle.std.specs.Prelude.{flat_map}
+use Rattle.input_lines.specs.Ahead.{Ahead, Row, Came, on_line}
 use Rattle.journal_model.specs.declared.step.Outcome.{Outcome}
 use Rattle.journal_model.specs.declared.step.Entry.{Entry}
-use Rattle.script_lines.specs.Controls.{control_of}
-use Rattle.journal_model.specs.Steps.{IsStepWithin, IsTypedStep}
-use Rattle.script_lines.specs.declared.script.ScriptItem.TheVariants.{Step as step, Kept}
-use Rattle.journal_text.specs.Lines.{line_text, item_text, item_row, items_of}
-use Rattle.journal_text.specs.Commands.{step_fields, step_items}
+use Rattle.script_lines.specs.declared.script.ScriptItem.TheVariants.{Kept}
+use Rattle.journal_text.specs.Lines.{line_text, item_text}
+use Rattle.journal_text.specs.Commands.{step_items}
 use Rattle.journal_text.specs.Entries.{entry_text}
-use Rattle.script_lines.specs.Script.{feed_of, feed_command, short_step, command_with, command_of_caller, command_by, read_command, kept_in, kept_item, step_item, read_item, item_on, first_script_item, IsShapedStep}
-use Rattle.journal_text.specs.CommandBack.{IsNumeralNumber, IsRow, IsShort, command_row, row_line, shown_lines, ahead_of, command_lines}
+use Rattle.script_lines.specs.Script.{kept_item, read_item, first_script_item}
+use Rattle.journal_text.specs.CommandBack.{IsRow, IsShort, command_row, row_line, ahead_of, command_lines}
 use Rattle.journal_text.specs.Back.{outcome_row, IsReadableOutcome, IsWritableOutcome, EntriesReadBack}
-use Rattle.journal_text.proofs.CommandBack.{AreRows, behind_rows, command_back, command_is_row, first_reads, items_first, lines_from, numbered, row_fields, row_first, step_reads, step_rows}
-use Rattle.script_lines.proofs.NumberBack.{number_back, numeral_back, moment_back, digits_of, low}
+use Rattle.journal_text.proofs.CommandBack.{behind_rows, command_back, command_is_row, first_reads, items_first, lines_from, numbered, row_fields, row_first, step_reads, step_rows}
 use Rattle.journal_text.proofs.EntryRows.{outcome_reads, outcome_front, outcome_row_kept, outcome_line, readable_written}
-use Rattle.journal_text.proofs.CommandFields.{item_row_kept, command_kept, command_front}
 
 -- ---- an entry
 

@@ -1,18 +1,11 @@
 -- The line of an outcome is a row.
-use Rattle.std.proofs.Common.{◌≡◌, ◌≢◌, ◌==◌, ◌&&◌, ◌∙◌, ◌<◌, ◌≤◌, ◌*◌, ◌^◌, ◌++◌, ◌∷◌, [], ℕ, List, Bool, refl, sym, ap, true, false, inl, inr, arith, append-nil}
-use Rattle.std.specs.Prelude.{codes, decimal, nat_le, if◌then◌else◌}
-use Rattle.std.specs.Char.{is_ascii_digit}
-use Rattle.std.specs.List.{list_all, list_any, AllByRecursion}
-use Rattle.std.proofs.lemmas.Bool.{cases_Bool, eqb-true, and_parts}
-use Rattle.std.proofs.lemmas.Bool.Decides.{nat_tests}
-use Rattle.csv.specs.Writing.{default_writer, field_text, fields_text, needs_byte}
-use Rattle.si_time.specs.Readings.{has_shape}
-use Rattle.si_time.specs.Moments.{moment_text}
+use Rattle.std.proofs.Common.{◌≡◌, ◌≢◌, ◌∙◌, ◌<◌, ◌≤◌, ◌^◌, ◌++◌, ◌∷◌, [], ℕ, List, refl, sym, ap, true, arith, append-nil}
+use Rattle.std.specs.Prelude.{codes}
+use Rattle.std.specs.List.{list_all, AllByRecursion}
+use Rattle.std.proofs.lemmas.Bool.{and_parts}
+use Rattle.csv.specs.Writing.{default_writer, field_text, fields_text}
 use Rattle.guide_model.specs.Decoding.{IsKept}
-use Rattle.input_lines.specs.Numbers.{is_digit, numeral_of}
-use Rattle.input_lines.proofs.CleanText.{is_plain_char, IsClean}
-use Rattle.input_lines.proofs.CleanLines.{kept_from}
-use Rattle.si_time.proofs.TextFacts.{moment_in-only, moment_in-moment_text}
+use Rattle.input_lines.specs.Numbers.{numeral_of}
 use Rattle.journal_model.specs.declared.reply.Field.{Field}
 use Rattle.journal_model.specs.declared.reply.Field.TheVariants.{Count, Segment}
 use Rattle.journal_model.specs.declared.reply.DayFault.{DayFault}
@@ -25,12 +18,9 @@ use Rattle.script_lines.specs.Outcomes.{field_fields, field_numbers, fault_ids, 
 use Rattle.journal_text.specs.Entries.{outcome_text, with_commas}
 use Rattle.journal_text.specs.CommandBack.{IsFronted, row_line}
 use Rattle.journal_text.specs.Back.{IsReadableOutcome, IsWritableOutcome, OutcomesReadBack, outcome_row}
-use Rattle.script_lines.proofs.NumberBack.{digits_of, low, small, number_back, numeral_back}
+use Rattle.script_lines.proofs.NumberBack.{low, small, number_back, numeral_back}
 use Rattle.script_lines.proofs.OutcomeBack.{outcome_back}
 use Rattle.si_lists.proofs.Lists.{all_map}
-use Rattle.si_lists.proofs.Filters.{list_all-more}
-use Rattle.guide_model.specs.Control.{is_printing}
-use Rattle.journal_text.proofs.CleanRows.{clean_append, clean_none, clean_byte}
 use Rattle.journal_text.proofs.PlainFields.{all_written, is_written, moment_written, number_written, plain_field, written_kept}
 
 -- ---- the line of an outcome

@@ -1,11 +1,8 @@
 -- The text of a line, field by field.
-use Rattle.std.proofs.Common.{◌≡◌, ℕ, ◌<◌, List, [], ◌∷◌, ◌++◌, length, refl, sym, ap, ◌∙◌, arith, append-nil, append_assoc, false}
+use Rattle.std.proofs.Common.{◌≡◌, ℕ, ◌<◌, List, [], ◌∷◌, ◌++◌, refl, sym, ap, ◌∙◌, arith, append-nil, append_assoc, false}
 use Rattle.std.specs.Prelude.{◌==◌, Result, Ok, Err, OnOk}
 use Rattle.std.proofs.lemmas.Bool.Decides.{nat_tests}
 use Rattle.csv.specs.Writing.{default_writer, row_body, field_text, fields_text}
-use Rattle.guide_model.specs.declared.descriptor.RawDesc.{RawDesc}
-use Rattle.guide_model.specs.Descriptors.{descriptors_text}
-use Rattle.script_lines.specs.EditFields.{further_fields}
 use Rattle.journal_text.specs.Lines.{Line, and_field, and_fields, no_fields, ended, line_text}
 
 rest_text : (line : Line) (fields : List (List ℕ)) → 0 < line.fields → (and_fields line fields).text ≡ line.text ++ fields_text default_writer fields
@@ -34,12 +31,3 @@ pub behind : {E : Type 0} (r : Result (Unit {0}) E) (old line more more' middle 
 behind (Ok u) old line more more' middle new at same is =
     is ∙ ap (λ (m : List ℕ). m ++ more') at ∙ append_assoc old line more' ∙ ap (λ (m : List ℕ). old ++ (line ++ m)) same
 behind (Err e) old line more more' middle new at same is = tt
-
--- the field of further descriptors, where there are none, and where there are some
-pub further_none : (ds : List RawDesc) → length ds ≡ 0 → further_fields ds ≡ []
-further_none [] none = refl
-further_none (d ∷ ds) none = absurd (omega (arith, none))
-
-pub further_some : (ds : List RawDesc) → (length ds ≡ 0 → ⊥) → further_fields ds ≡ descriptors_text ds ∷ []
-further_some [] some = absurd (some refl)
-further_some (d ∷ ds) some = refl

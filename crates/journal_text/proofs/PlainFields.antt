@@ -1,31 +1,19 @@
 -- Fields of digits, letters and signs, which csv does not quote.
-use Rattle.std.proofs.Common.{◌≡◌, ◌≢◌, ◌==◌, ◌&&◌, ◌∙◌, ◌<◌, ◌≤◌, ◌*◌, ◌^◌, ◌++◌, ◌∷◌, [], ℕ, List, Bool, refl, sym, ap, true, false, inl, inr, arith, append-nil}
+use Rattle.std.proofs.Common.{◌≡◌, ◌==◌, ◌&&◌, ◌<◌, ◌*◌, ◌^◌, ◌∷◌, [], ℕ, List, Bool, refl, true, false, inl, inr, arith}
 use Rattle.std.specs.Prelude.{codes, decimal, nat_le, if◌then◌else◌}
 use Rattle.std.specs.Char.{is_ascii_digit}
-use Rattle.std.specs.List.{list_all, list_any, AllByRecursion}
+use Rattle.std.specs.List.{list_all, list_any}
 use Rattle.std.proofs.lemmas.Bool.{cases_Bool, eqb-true, and_parts}
 use Rattle.std.proofs.lemmas.Bool.Decides.{nat_tests}
-use Rattle.csv.specs.Writing.{default_writer, field_text, fields_text, needs_byte}
+use Rattle.csv.specs.Writing.{default_writer, field_text, needs_byte}
 use Rattle.si_time.specs.Readings.{has_shape}
 use Rattle.si_time.specs.Moments.{moment_text}
 use Rattle.guide_model.specs.Decoding.{IsKept}
-use Rattle.input_lines.specs.Numbers.{is_digit, numeral_of}
+use Rattle.input_lines.specs.Numbers.{is_digit}
 use Rattle.input_lines.proofs.CleanText.{is_plain_char, IsClean}
 use Rattle.input_lines.proofs.CleanLines.{kept_from}
 use Rattle.si_time.proofs.TextFacts.{moment_in-only, moment_in-moment_text}
-use Rattle.journal_model.specs.declared.reply.Field.{Field}
-use Rattle.journal_model.specs.declared.reply.Field.TheVariants.{Count, Segment}
-use Rattle.journal_model.specs.declared.reply.DayFault.{DayFault}
-use Rattle.journal_model.specs.declared.reply.DayFault.TheVariants.{Range as BadField, Overlap as Overlaps}
-use Rattle.journal_model.specs.declared.reply.Reply.TheVariants.{Done, Foreign, Range, Overlap, Member}
-use Rattle.journal_model.specs.declared.step.Outcome.{Outcome}
-use Rattle.journal_model.specs.declared.step.Outcome.TheVariants.{Edited, Ticked, Late, Published, Swapped}
-use Rattle.journal_text.specs.Lines.{line_text}
-use Rattle.script_lines.specs.Outcomes.{field_fields, field_numbers, fault_ids, fault_numbers, day_fault_fields, id_in, outcome_fields, outcome_ids, outcome_numbers, outcome_of_fields}
-use Rattle.journal_text.specs.CommandBack.{IsFronted, row_line}
-use Rattle.script_lines.proofs.NumberBack.{digits_of, low, small, number_back, numeral_back}
-use Rattle.script_lines.proofs.OutcomeBack.{outcome_back}
-use Rattle.si_lists.proofs.Lists.{all_map}
+use Rattle.script_lines.proofs.NumberBack.{digits_of}
 use Rattle.si_lists.proofs.Filters.{list_all-more}
 use Rattle.guide_model.specs.Control.{is_printing}
 use Rattle.journal_text.proofs.CleanRows.{clean_append, clean_none, clean_byte}

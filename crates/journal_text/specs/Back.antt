@@ -1,22 +1,16 @@
 -- What is written reads back: outcomes and entries.
-use Rattle.std.specs.Prelude.{◌≡◌, ◌≤◌, ◌<◌, ◌^◌, ◌+◌, ℕ, true, false, ◌==◌, List, [], ◌∷◌, ◌++◌, length, map, Some, codes, decimal}
+use Rattle.std.specs.Prelude.{◌≡◌, ◌≤◌, ◌<◌, ◌^◌, ◌+◌, ℕ, true, false, List, [], ◌∷◌, ◌++◌, Some, codes}
 use Rattle.std.specs.List.{AllByRecursion}
-use Rattle.csv.specs.Writing.{default_writer, row_body}
-use Rattle.si_causes.specs.Lines.{raw_lines, shown}
-use Rattle.guide_model.specs.Decoding.{IsKept}
-use Rattle.input_lines.specs.Fields.{record_of}
-use Rattle.input_lines.specs.Lines.{is_passed, record_lines}
 use Rattle.input_lines.specs.Numbers.{is_digit}
 use Rattle.journal_model.specs.declared.step.Outcome.{Outcome}
 use Rattle.journal_model.specs.declared.edit.Item.{Item}
 use Rattle.input_lines.specs.Ahead.{Ahead, Tail, Came}
-use Rattle.journal_model.specs.declared.step.Step.{Step}
 use Rattle.journal_model.specs.declared.step.Entry.{Entry}
 use Rattle.journal_model.specs.Steps.{IsStepWithin, IsTypedStep, IsInWindow}
 use Rattle.script_lines.specs.declared.script.ScriptItem.TheVariants.{Step as step, Kept}
-use Rattle.journal_text.specs.Lines.{line_text, item_row}
+use Rattle.journal_text.specs.Lines.{item_row}
 use Rattle.journal_text.specs.CommandBack.{IsNumeralNumber, IsShort, ahead_of, command_lines, command_row}
-use Rattle.journal_text.specs.Commands.{step_fields, step_items}
+use Rattle.journal_text.specs.Commands.{step_items}
 use Rattle.journal_text.specs.Entries.{with_commas, outcome_text, entry_text, journal_text}
 use Rattle.script_lines.specs.Script.{first_script_item, IsShapedStep}
 use Rattle.script_lines.specs.Outcomes.{outcome_fields, outcome_of_fields, outcome_ids, outcome_numbers}

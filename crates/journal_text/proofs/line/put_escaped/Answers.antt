@@ -1,4 +1,4 @@
-use Rattle.std.proofs.Common.{◌≡◌, ◌∙◌, ◌++◌, ◌∷◌, [], ℕ, List, ap, sym, append_assoc}
+use Rattle.std.proofs.Common.{◌∙◌, ◌++◌, ◌∷◌, [], ℕ, List, ap, sym, append_assoc}
 use Rattle.journal_text.proofs.Quoting.{escaped_quote, escaped_other}
 use Rattle.journal_text.proofs.line.put_escaped.Goals.{then-b-eq34+in_ok-push, else-b-eq34}
 use Rattle.journal_text.proofs.line.put_escaped.Goals as goal

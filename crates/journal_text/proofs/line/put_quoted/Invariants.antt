@@ -1,4 +1,4 @@
-use Rattle.std.proofs.Common.{◌≡◌, ◌++◌, ◌∷◌, [], take}
+use Rattle.std.proofs.Common.{◌≡◌, ◌++◌, ◌∷◌, take}
 use Rattle.csv.specs.Writing.{default_writer, escaped}
 use Rattle.journal_text.proofs.line.put_quoted.Given as goal
 
