@@ -1,9 +1,9 @@
 -- There is a reason exactly where a line is not what may stand there.
-use Rattle.std.proofs.Common.{◌≡◌, ◌∙◌, ◌==◌, ◌+◌, ℕ, Bool, true, false, List, [], ◌∷◌, length, drop, refl, sym, ap, subst, inl, inr, arith}
+use Rattle.std.proofs.Common.{◌≡◌, ◌∙◌, ◌+◌, ℕ, Bool, true, false, List, [], ◌∷◌, length, drop, refl, sym, ap, subst, inl, inr}
 use Rattle.std.specs.Prelude.{Option, Some, None, is_none, is_some, nat_le, option_and_then, option_map, codes, if◌then◌else◌}
 use Rattle.std.specs.Option.{option_or}
 use Rattle.std.specs.Str.{is_utf8}
-use Rattle.std.proofs.lemmas.Bool.{cases_Bool, eqb-true}
+use Rattle.std.proofs.lemmas.Bool.{cases_Bool}
 use Rattle.std.proofs.lemmas.Slice.Eq.{bytes_eq-Decides}
 use Rattle.guide_model.specs.Control.{has_control}
 use Rattle.si_time.specs.Readings.{has_shape, moment_in}
@@ -89,7 +89,7 @@ counted_exact k (a ∷ b ∷ c ∷ d ∷ e ∷ f ∷ g ∷ h ∷ i ∷ j ∷ mor
     let starts = BadField field.Start (k + 1) in
     let lasts = BadField field.Duration (k + 2) in
     let listed = BadField field.Genres (k + 9) in
-    let described = BadField field.Descriptors (k + 10) in
+    let described = BadField field.Descriptors (k + 9 + 1) in
     let rest = option_or rated (listed_by (genres_of j) (further_of more) listed described) in
     let item = item_with d e f g (number_in 0 65535 a) (stamp_of b) (length_of c) (rating_of h i) (genres_of j) (further_of more) in
     subst (λ (s : Bool). IsExact (option_or (why_id field.Event k a) (option_or (unless s starts) (option_or (unless (has_shape (codes "dd:dd:dd") c) lasts) rest))) item) (sym (stamp_some b))

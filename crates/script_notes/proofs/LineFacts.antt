@@ -1,5 +1,5 @@
 -- What is asked of a line and of its fields.
-use Rattle.std.proofs.Common.{◌≡◌, ◌∙◌, ◌<◌, ◌≤◌, ◌+◌, ℕ, true, false, ◌-◌, List, [], ◌∷◌, length, take, drop, length-drop, get_or, refl, ap, inl, inr, arith}
+use Rattle.std.proofs.Common.{◌≡◌, ◌∙◌, ◌<◌, ◌≤◌, ◌+◌, ℕ, true, false, ◌-◌, List, ◌∷◌, length, take, drop, length-drop, get_or, refl, ap, inl, inr, arith}
 use Rattle.std.specs.Prelude.{Option, Some, None, is_some, option_map, codes, nat_le}
 use Rattle.std.specs.Option.{option_or}
 use Rattle.std.specs.Str.{IsUtf8, is_utf8}

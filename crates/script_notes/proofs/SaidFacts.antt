@@ -1,6 +1,6 @@
 -- Why a line of a reader is at fault can be said: no outcome is among the reasons.
 use Rattle.std.proofs.Common.{ℕ, Bool, true, false, List, [], ◌∷◌, length}
-use Rattle.std.specs.Prelude.{Option, Some, None, IfSome, is_some, codes, not, nat_le, ◌==◌, ◌+◌, if◌then◌else◌}
+use Rattle.std.specs.Prelude.{Option, Some, None, IfSome, is_some, codes, not, nat_le, ◌+◌, if◌then◌else◌}
 use Rattle.std.specs.Option.{option_or}
 use Rattle.std.specs.Str.{is_utf8}
 use Rattle.guide_model.specs.Control.{has_control}

@@ -80,7 +80,20 @@ fn why_event(alloc: Global, k: u64, fields: &[Txt]) -> Result<Option<Why>, Alloc
     requires { k ≤ 50 }
     ensures { IfOk result (λ why. why ≡ why_event k fields.now) }
 {
-    let [event, start, duration, _, _, _, _, country, rating, genres, further @ ..] = fields else {
+    let [
+        event,
+        start,
+        duration,
+        _,
+        _,
+        _,
+        _,
+        country,
+        rating,
+        genres,
+        further @ ..,
+    ] = fields
+    else {
         return Ok(None);
     };
     let listed = why_listed(alloc, k + 9, genres, further)?;
