@@ -4,13 +4,10 @@ Descriptors are compared with bytes that were put together by hand: EN 300 468, 
 """
 import tempfile
 import unittest
-from datetime import datetime
 from pathlib import Path
 from typing import List
-from xml.etree import ElementTree
-from xml.etree.ElementTree import Element, SubElement
 
-from xmltv_listings import Made, Wild, listing, made_of, programme, run_tool
+from xmltv_listings import LISTED, Made, WildKinds, links_and_kinds_of, listing, made_of, programme, run_tool
 
 from component_kinds import AUDIO_CODES, SUBTITLES_CODES, VIDEO_CODES, aspect_of, is_high, kinds_of
 from crids import Reference
@@ -19,12 +16,6 @@ from event_descriptors import fitted_descriptors
 from event_sizes import BLOCK, BLOCK_BYTES, Event, entry_size
 from xmltv_times import read_moment
 
-LISTED = (
-    '<title lang="de">Tatort</title><episode-num system="programme_crid">crid://example.com/E7</episode-num>'
-    '<episode-num system="series_crid">crid://example.com/S2</episode-num><video><aspect>16:9</aspect><quality>HDTV</quality></video>'
-    '<audio><stereo>dolby digital</stereo></audio><subtitles type="teletext"><language>de</language></subtitles>'
-    '<subtitles type="deaf-signed" />'
-)
 FIELD = "5006f50b01676572 5006f44402676572 5006f30103676572 5006f33004756e64 7620c40e6578616d706c652e636f6d2f4537c80e6578616d706c652e636f6d2f5332"
 # What `listen --details` prints of a guide with such an event, and an authority of the service.
 REPORT = """clock\t2026-11-30T20:20:00Z
@@ -166,12 +157,6 @@ class Limits(WithDescriptors):
 
 
 class RoundTrips(WithDescriptors):
-    def parts(self, document: bytes) -> List[str]:
-        """The elements of links and kinds of the programme of a listing."""
-        (found,) = ElementTree.fromstring(document).findall("programme")
-        tags = ("episode-num", "video", "audio", "subtitles")
-        return ["".join(ElementTree.tostring(part, encoding="unicode").split()) for part in found if part.tag in tags]
-
     def back(self, report: str) -> bytes:
         status, out, said = run_tool("to_xmltv", [], report.encode())
         self.assertEqual(status, 0, said)
@@ -182,7 +167,7 @@ class RoundTrips(WithDescriptors):
         self.assertEqual(self.made(LISTED).items[0][11], FIELD)
         self.assertEqual([line.split("\t")[1] for line in REPORT.splitlines() if line.startswith("descriptor\t5") or "\t76" in line], FIELD.split())
         listed = listing(programme("202611302000", "", LISTED)).encode()
-        self.assertEqual(self.parts(self.back(REPORT)), self.parts(listed))
+        self.assertEqual(links_and_kinds_of(self.back(REPORT)), links_and_kinds_of(listed))
 
     def test_what_came_back_gives_the_same_field(self) -> None:
         text = self.back(REPORT).decode()
@@ -194,7 +179,7 @@ class RoundTrips(WithDescriptors):
         self.assertEqual(field, "7605c8032f5332")
         lines = [line for line in REPORT.splitlines() if not line.startswith(("descriptor\t5", "descriptor\t76"))]
         report = "\n".join([*lines[:-1], f"descriptor\t{field}", lines[-1], ""])
-        self.assertEqual(self.parts(self.back(report)), ['<episode-numsystem="series_crid">crid://o.test/S2</episode-num>'])
+        self.assertEqual(links_and_kinds_of(self.back(report)), ['<episode-numsystem="series_crid">crid://o.test/S2</episode-num>'])
 
     def test_each_code_that_is_written_is_read_as_the_same(self) -> None:
         for video, code in VIDEO_CODES.items():
@@ -211,27 +196,6 @@ class RoundTrips(WithDescriptors):
         for quality, high in {"HDTV": True, "hd": True, "UHDTV": True, "4K": True, "1080p": True, "1920x1080": True, "720": True, "SDTV": False,
                               "720x576": False, "800x600": False, "576i": False, "": False}.items():
             self.assertEqual(is_high(quality), high, quality)
-
-
-class WildKinds(Wild):
-    """Random listings with links and kinds of all sorts."""
-
-    SYSTEMS = ("programme_crid", "series_crid", "series_crid", "crid", "xmltv_ns")
-    ASPECTS = ("4:3", "16:9", "2.35:1", "14:9", "", "\ufffe", "1:0")
-    STEREOS = ("mono", "stereo", "Dolby Digital", "surround", "x")
-
-    def add_programme(self, tv: Element, channel: str, start: datetime) -> None:
-        super().add_programme(tv, channel, start)
-        chance, found = self.chance, tv[-1]
-        for _ in range(chance.choice((0, 1, 2, 5))):
-            crid = chance.choice(("crid://a.test/", "/", "b.test/", "", "é/")) + "x" * chance.choice((0, 1, 5, 30, 120, 230, 240, 300))
-            SubElement(found, "episode-num", system=chance.choice(self.SYSTEMS)).text = crid
-        if chance.random() < 0.5:
-            SubElement(SubElement(found, "video"), "aspect").text = chance.choice(self.ASPECTS)
-            SubElement(SubElement(found, "audio"), "stereo").text = chance.choice(self.STEREOS)
-        for _ in range(chance.choice((0, 0, 1, 3, 40))):
-            subtitles = SubElement(found, "subtitles", type=chance.choice(("teletext", "onscreen", "deaf-signed")))
-            SubElement(subtitles, "language").text = "".join(chance.choice("abc") for _ in range(chance.choice((2, 3, 3))))
 
 
 class RandomListings(WithDescriptors):

@@ -11,7 +11,9 @@ from pathlib import Path
 from typing import Dict, List, NamedTuple, Optional, Tuple
 from xml.etree import ElementTree
 
-from xmltv_listings import FIRST_DAY, SAMPLES, Wild, listing, program, programme, refused, run_program, run_tool, texts_of
+from xmltv_listings import (
+    FIRST_DAY, LISTED, SAMPLES, WildKinds, links_and_kinds_of, listing, program, programme, refused, run_program, run_tool, texts_of,
+)
 
 from ratings import age_of
 from xmltv_times import read_time, zone_of
@@ -73,8 +75,8 @@ class Runs(unittest.TestCase):
         self.assertEqual((run.returncode, refused(run.stderr.decode())), (0, []))
         return run.stdout
 
-    def listing_of(self, air: bytes, channels: Path) -> bytes:
-        heard = run_program(["listen"], air)
+    def listing_of(self, air: bytes, channels: Path, *words: str) -> bytes:
+        heard = run_program(["listen", *words], air)
         self.assertEqual(heard.returncode, 0, heard.stderr[-200:])
         status, out, said = run_tool("to_xmltv", ["--map", str(channels)], heard.stderr)
         self.assertEqual(status, 0, said)
@@ -139,6 +141,17 @@ class Runs(unittest.TestCase):
         self.assertEqual(edits.count(b"\nitem,"), 2000)
         self.air(mux, edits)
 
+    def test_links_and_kinds_come_back(self) -> None:
+        """Those of a listing are descriptors of an event on air, and a receiver's guide has them."""
+        mux, channels, path = (self.folder / name for name in ("mux.txt", "channels.csv", "listings.xml"))
+        mux.write_text("network,1,N\nstream,1,1\nservice,101,1,1,256,257,P,N\nend\n", encoding="utf-8")
+        channels.write_text("a,101,1\n", encoding="utf-8")
+        path.write_text(listing(programme("202611302000", "202611302100", LISTED)), encoding="utf-8")
+        air = self.air(mux, self.edits(channels, [path], "--descriptors", "--publish", PUBLISH))
+        listed, without = links_and_kinds_of(path.read_bytes()), links_and_kinds_of(self.listing_of(air, channels))
+        self.assertEqual((len(listed), without), (6, []))
+        self.assertEqual(links_and_kinds_of(self.listing_of(air, channels, "--details")), listed)
+
     def test_random_listings_are_not_refused(self) -> None:
         mux, channels = self.folder / "mux.txt", self.folder / "channels.csv"
         mux.write_text("network,1,N\nstream,1,1\n" + "".join(f"service,{s},{s},1,{256 + s},{300 + s},P,N\n" for s in (1, 2, 3)) + "end\n", encoding="utf-8")
@@ -154,7 +167,7 @@ class Runs(unittest.TestCase):
 
     def edits_of(self, seed: int, channels: Path) -> bytes:
         """The edits of a random listing; none where nothing of it can be put on air."""
-        wild = Wild(seed)
+        wild = WildKinds(seed)
         path = self.folder / "wild.xml"
         path.write_bytes(wild.listing(("a", "b")))
         words = ["--map", str(channels), "--from", FIRST_DAY, "--ids", str(self.folder / "ids.json"), *wild.words()]

@@ -14,7 +14,7 @@ from functools import lru_cache
 from pathlib import Path
 from typing import Dict, List, NamedTuple, Optional, Sequence
 from unittest import mock
-from xml.etree.ElementTree import Element, SubElement, tostring
+from xml.etree.ElementTree import Element, SubElement, fromstring, tostring
 
 from loading import TOOLS, load
 
@@ -104,6 +104,24 @@ def run_program(words: Sequence[str], data: bytes) -> "subprocess.CompletedProce
     return subprocess.run([str(program()), *words], input=data, capture_output=True, check=False)
 
 
+# ---- links and kinds
+
+# A programme with links of itself and of its series, and with kinds of components.
+LISTED = (
+    '<title lang="de">Tatort</title><episode-num system="programme_crid">crid://example.com/E7</episode-num>'
+    '<episode-num system="series_crid">crid://example.com/S2</episode-num><video><aspect>16:9</aspect><quality>HDTV</quality></video>'
+    '<audio><stereo>dolby digital</stereo></audio><subtitles type="teletext"><language>de</language></subtitles>'
+    '<subtitles type="deaf-signed" />'
+)
+
+
+def links_and_kinds_of(document: bytes) -> List[str]:
+    """The elements of links and kinds of the one programme of a listing, without spaces."""
+    (found,) = fromstring(document).findall("programme")
+    tags = ("episode-num", "video", "audio", "subtitles")
+    return ["".join(tostring(part, encoding="unicode").split()) for part in found if part.tag in tags]
+
+
 # ---- random listings
 
 LETTERS = [
@@ -175,8 +193,32 @@ class Wild:
 
     def words(self) -> List[str]:
         """Options of from_xmltv."""
-        optional = (["--credits"], ["--lang", "ger,eng"], ["--zone", "-0330"], ["--country", "NOR"], ["--untitled", "…" * 33], ["--last", "1439"])
+        optional = (
+            ["--credits"], ["--lang", "ger,eng"], ["--zone", "-0330"], ["--country", "NOR"], ["--untitled", "…" * 33], ["--last", "1439"],
+            ["--descriptors"],
+        )
         return [word for words in optional if self.chance.random() < 0.3 for word in words] + ["--days", self.chance.choice(("1", "7", "64"))]
+
+
+class WildKinds(Wild):
+    """Random listings with links and kinds of all sorts."""
+
+    SYSTEMS = ("programme_crid", "series_crid", "series_crid", "crid", "xmltv_ns")
+    ASPECTS = ("4:3", "16:9", "2.35:1", "14:9", "", "\ufffe", "1:0")
+    STEREOS = ("mono", "stereo", "Dolby Digital", "surround", "x")
+
+    def add_programme(self, tv: Element, channel: str, start: datetime) -> None:
+        super().add_programme(tv, channel, start)
+        chance, found = self.chance, tv[-1]
+        for _ in range(chance.choice((0, 1, 2, 5))):
+            crid = chance.choice(("crid://a.test/", "/", "b.test/", "", "é/")) + "x" * chance.choice((0, 1, 5, 30, 120, 230, 240, 300))
+            SubElement(found, "episode-num", system=chance.choice(self.SYSTEMS)).text = crid
+        if chance.random() < 0.5:
+            SubElement(SubElement(found, "video"), "aspect").text = chance.choice(self.ASPECTS)
+            SubElement(SubElement(found, "audio"), "stereo").text = chance.choice(self.STEREOS)
+        for _ in range(chance.choice((0, 0, 1, 3, 40))):
+            subtitles = SubElement(found, "subtitles", type=chance.choice(("teletext", "onscreen", "deaf-signed")))
+            SubElement(subtitles, "language").text = "".join(chance.choice("abc") for _ in range(chance.choice((2, 3, 3))))
 
 
 def texts_of(found: Element) -> Dict[str, Optional[str]]:
