@@ -9,7 +9,7 @@ use Rattle.feed_book.proofs.events.Timeline.withdraw.Goals as goal
 with : (guide : ServiceGuide) (es : List Event) → ServiceGuide
 with guide es = record guide { events = es }
 
-gone : (c : goal.After-drop-gone-4) → (c.remove-gone.new.self.items ≡ without c.args.id c.self.inside.page.guide.events) × AreIndexed (without c.args.id c.self.inside.page.guide.events) c.remove.new.self.items
+gone : (c : goal.After-drop-gone-5) → (c.remove-gone.new.self.items ≡ without c.args.id c.self.inside.page.guide.events) × AreIndexed (without c.args.id c.self.inside.page.guide.events) c.remove.new.self.items
 gone c =
     let at = c.place_of_id-at.result in
     let guide = c.self.inside.page.guide in
