@@ -1,5 +1,6 @@
 #!/usr/bin/env python3
 """Prints a script of `play`: a multiplex with 15 other streams, 64 services on them and 8 of its own, events of all, a publish and a swap.
+The own stream, its services and a third of the events have further descriptors.
 usage: describe.py [NUMBER]    another number gives other names, events and places"""
 import csv
 import datetime
@@ -10,6 +11,10 @@ START = datetime.datetime(2026, 11, 30, 12, 10)
 MIDNIGHT = datetime.datetime(2026, 11, 30)
 WORDS = ("Harbour", "Fjord", "Evening", "News", "Ferry", "Night", "Übersee", "Café", "Ship", "Hour", "Weather", "Film", "Zwölf", "Naïve", "Quay")
 LANGUAGES = ("eng", "deu", "fra", "nor")
+# kinds of picture, sound and subtitles (EN 300 468, 6.2.8); content references with and without an authority (TS 102 323, 12.1)
+COMPONENTS = ("5006f50b01646575", "5006f44402656e67", "5006f30103676572", "500ff2030273776553746572656f206d6978")
+REFERENCES = ("760ac4032f4537c8032f5332", "761bc4194c6f6e672e6578616d706c652e636f6d2f456e747279")
+RATINGS = "55084445550941555409"
 
 
 def moment(at):
@@ -26,6 +31,11 @@ def description(chance):
     services = [(101 + i, 1 + i % 2) for i in range(8)]
     for i, (service, feed) in enumerate(services):
         lines.append(["service", service, feed, chance.choice((1, 2, 25)), 256 + i, 512 + i, "Harbour", words(chance, 3)])
+        if i % 2:
+            lines.append(["descriptor", "service", service, "730b6578616d706c652e636f6d"])
+    # logical channel numbers (IEC/CENELEC TS 62216)
+    channels = "".join(f"{service:04x}{0xFC00 + i:04x}" for i, (service, _) in enumerate(services, 1))
+    lines.append(["descriptor", "stream", f"5f0400000028 83{len(channels) // 2:02x}{channels}"])
     streams = [(2 + i, chance.choice((1, 8))) for i in range(15)]
     chance.shuffle(streams)
     for i, pair in enumerate(streams):
@@ -39,13 +49,29 @@ def description(chance):
     return lines + [["end"]], services
 
 
+def private(chance):
+    """A private_data_specifier, and a descriptor of a kind that is nobody's."""
+    body = bytes(chance.randint(0, 255) for _ in range(chance.choice((0, 1, 20, 90))))
+    return ["5f0400000028", bytes([chance.randint(0x84, 0xFE), len(body)]).hex() + body.hex()]
+
+
+def further_of_event(chance, is_rated):
+    """Further descriptors of an event, in groups of digits; of two events in three there is none."""
+    if chance.random() < 0.67:
+        return ""
+    found = chance.sample(COMPONENTS, chance.randint(0, 3)) + chance.sample(REFERENCES, chance.randint(0, 1))
+    found += [] if is_rated or chance.random() < 0.5 else [RATINGS]
+    found += private(chance) if chance.random() < 0.3 else []
+    return " ".join(chance.choice((str.upper, str.lower))(group) for group in found)
+
+
 def event(chance, service, feed, number, at, minutes):
     genres = " ".join(f"{chance.randint(1, 11)}.{chance.randint(0, 15)}.{chance.randint(0, 255)}" for _ in range(chance.randint(0, 3)))
     rating = ["GBR", chance.randint(1, 15)] if chance.random() < 0.4 else ["", ""]
     extended = words(chance, 120) if chance.random() < 0.3 else ""
     short = words(chance, 8) if chance.random() < 0.6 else ""
     return ["feed", feed, "put", service, number, moment(at), f"{minutes // 60:02}:{minutes % 60:02}:00", chance.choice(LANGUAGES),
-            words(chance, 5), short, extended, *rating, genres]
+            words(chance, 5), short, extended, *rating, genres, *filter(None, [further_of_event(chance, rating[0])])]
 
 
 def events(chance, service, feed):

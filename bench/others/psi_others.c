@@ -44,12 +44,24 @@ static void put_list(dvbpsi_descriptor_t *d) {
     }
 }
 
+/* the descriptors that have none of these tags, in digits; a rating of several countries is one of them */
+static void put_further(dvbpsi_descriptor_t *d, const char *made) {
+    for (const char *gap = ""; d; d = d->p_next) {
+        if (strchr(made, d->i_tag) && !(d->i_tag == 0x55 && d->i_length != 4)) continue;
+        printf("%s%02x%02x", gap, d->i_tag, d->i_length);
+        for (int i = 0; i < d->i_length; i++) printf("%02x", d->p_data[i]);
+        gap = " ";
+    }
+}
+
 static void on_nit(void *data, dvbpsi_nit_t *t) {
     for (dvbpsi_nit_ts_t *s = t->p_first_ts; s; s = s->p_next) {
         printf("stream\t%d\t%d\t", s->i_ts_id, s->i_orig_network_id);
         put_cable(s->p_first_descriptor);
         printf("\t");
         put_list(s->p_first_descriptor);
+        printf("\t");
+        put_further(s->p_first_descriptor, "\x41\x44");
         printf("\n");
     }
     dvbpsi_nit_delete(t);
@@ -64,6 +76,8 @@ static void on_sdt(void *data, dvbpsi_sdt_t *t) {
             text(n->i_service_provider_name, n->i_service_provider_name_length);
             printf("\t");
             text(n->i_service_name, n->i_service_name_length);
+            printf("\t");
+            put_further(s->p_first_descriptor, "\x48");
             printf("\n");
         }
     dvbpsi_sdt_delete(t);
@@ -129,6 +143,8 @@ static void on_eit(void *data, dvbpsi_eit_t *t) {
         put_rating(e->p_first_descriptor);
         printf("\t");
         put_genres(e->p_first_descriptor);
+        printf("\t");
+        put_further(e->p_first_descriptor, "\x4D\x4E\x54\x55");
         printf("\n");
     }
     dvbpsi_eit_delete(t);

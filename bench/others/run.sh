@@ -17,7 +17,7 @@ for number in "$@"; do
     echo "number $number: $(($(stat -c %s "$air") / 188)) packets"
     tshark -o mpeg_sect.verify_crc:TRUE -r "$air" -Y 'dvb_nit || dvb_sdt || dvb_eit' -T pdml > "$work/tshark" 2> "$work/log"
     "$work/psi_others" "$air" > "$work/libdvbpsi"
-    "$program" listen < "$air" 2> "$work/listen"
+    "$program" listen --details < "$air" 2> "$work/listen"
     for decoder in tshark libdvbpsi listen; do
         python3 "$here/compare.py" "$script" $decoder "$work/$decoder" || failed=1
     done
