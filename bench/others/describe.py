@@ -12,8 +12,8 @@ MIDNIGHT = datetime.datetime(2026, 11, 30)
 WORDS = ("Harbour", "Fjord", "Evening", "News", "Ferry", "Night", "Übersee", "Café", "Ship", "Hour", "Weather", "Film", "Zwölf", "Naïve", "Quay")
 LANGUAGES = ("eng", "deu", "fra", "nor")
 # kinds of picture, sound and subtitles (EN 300 468, 6.2.8); content references with and without an authority (TS 102 323, 12.1)
-COMPONENTS = ("5006f50b01646575", "5006f44402656e67", "5006f30103676572", "500ff2030273776553746572656f206d6978")
-REFERENCES = ("760ac4032f4537c8032f5332", "761bc4194c6f6e672e6578616d706c652e636f6d2f456e747279")
+COMPONENTS = ("5006f50b01646575", "5006f44402656e67", "5006f30103676572", "5010f2030273776553746572656f206d6978")
+REFERENCES = ("760ac4032f4537c8032f5332", "7618c4164c6f6e672e6578616d706c652e636f6d2f456e747279")
 RATINGS = "55084445550941555409"
 
 

@@ -204,7 +204,7 @@ class WildKinds(Wild):
     """Random listings with links and kinds of all sorts."""
 
     SYSTEMS = ("programme_crid", "series_crid", "series_crid", "crid", "xmltv_ns")
-    ASPECTS = ("4:3", "16:9", "2.35:1", "14:9", "", "\ufffe", "1:0")
+    ASPECTS = ("4:3", "16:9", "2.35:1", "14:9", "", "\ufffd", "1:0")
     STEREOS = ("mono", "stereo", "Dolby Digital", "surround", "x")
 
     def add_programme(self, tv: Element, channel: str, start: datetime) -> None:
