@@ -59,7 +59,7 @@ no_others = refl
 
 -- ---- another stream
 
--- stream 3 of network 4 has a service, stream 5 of network 4 has none; the first has a further descriptor, and so has its service
+-- stream 3 of network 4 has a service, stream 5 of network 4 has none
 abbrev film : RemoteService
 film = record {
   service = 90;
@@ -67,14 +67,13 @@ film = record {
   kind = 25;
   provider = codes "Second";
   name = codes "Second";
-  descriptors = record { tag = 0x73; body = [] } ∷ [];
 }
 
 abbrev third : Other
-third = record { stream = 3; original = 4; cable = None; services = film ∷ []; descriptors = record { tag = 0x5F; body = 0 ∷ 0 ∷ 0 ∷ 0x28 ∷ [] } ∷ [] }
+third = record { stream = 3; original = 4; cable = None; services = film ∷ [] }
 
 abbrev fifth : Other
-fifth = record { stream = 5; original = 4; cable = None; services = []; descriptors = [] }
+fifth = record { stream = 5; original = 4; cable = None; services = [] }
 
 abbrev wide : Mux
 wide = record {
@@ -109,13 +108,13 @@ others_are : (screen_of wide both 129605).others ≡ record {
   stream = 3;
   original = 4;
   cable = None;
-  descriptors = record { tag = 0x5F; body = 0 ∷ 0 ∷ 0 ∷ 0x28 ∷ [] } ∷ [];
+  descriptors = [];
   services = record {
     service = 90;
     kind = 25;
     provider = Text (codes "Far");
     name = Text (codes "Far Films");
-    descriptors = record { tag = 0x73; body = [] } ∷ [];
+    descriptors = [];
     now = None;
     next = Some (shown 8 133200);
     events = shown 7 127800 ∷ shown 8 133200 ∷ [];
