@@ -1,6 +1,6 @@
 -- What is read of the lines ahead of a reader, one value after another, and why no more is.
 use Rattle.std.proofs.Common.{◌≡◌, ℕ, List, [], ◌∷◌, ◌++◌, length, take, refl, sym, ap, ◌∙◌, subst, append-nil, append_assoc}
-use Rattle.std.specs.Prelude.{Option, Some, Err}
+use Rattle.std.specs.Prelude.{Option, Some, None, Err}
 use Rattle.std.proofs.Math.Seq.{take-append_seam}
 use Rattle.si_causes.specs.Reading.{Reading, text_left}
 use Rattle.si_causes.specs.declared.stop.ReadStop.TheVariants.{Failed, TooLong as Overlong}
@@ -8,7 +8,7 @@ use Rattle.input_lines.specs.Going.{HandedOut}
 use Rattle.input_lines.proofs.Steps.{handed_none, handed_more, whole_more}
 use Rattle.input_lines.specs.declared.stop.EditStop.{EditStop}
 use Rattle.input_lines.specs.declared.stop.EditStop.TheVariants.{NoCommand as Refused, Read, Memory}
-use Rattle.input_lines.specs.Ahead.{Ahead, Tail, Breaks, Found, Came, Stopped, Stop, NoCommand, TooLong, Unread, ahead, and_all}
+use Rattle.input_lines.specs.Ahead.{Ahead, Tail, Breaks, Found, Came, Stopped, Stop, End, NoCommand, TooLong, Unread, ahead, and_all}
 use Rattle.input_lines.specs.Reads.{Gives, Takes, Passes, Leaves, ahead_with}
 use Rattle.desk_hall.specs.Reads.{ToldDid, TakenDid}
 
@@ -70,16 +70,21 @@ module _ {S T : Type 0} (left : S → Known) (first : Ahead → Found T) (all : 
     front_did : (a b : List T × Stop) (done : List T) → a ≡ (done ++ b.0, b.1) → did done → (k : ℕ) × did (take k a.0)
     front_did a b done e d = (length done, subst did (sym (ap (λ (p : List T × Stop). take (length done) p.0) e ∙ take-append_seam done b.0)) d)
 
-    pub told_stop : (old now : Reading S) (done : List T) (stop : Stop) → Follows old now done → did done
+    told_stop : (old now : Reading S) (done : List T) (stop : Stop) → Follows old now done → did done
         → ((rest : List ℕ) → text_left left now ≡ Some rest → first (ahead now rest) ≡ Stopped stop)
         → (text : List ℕ) → text_left left old ≡ Some text → ((all (ahead old text)).1 ≡ stop) × did (all (ahead old text)).0
     told_stop old now done stop w d stops text told =
         let t = w.told text told in
         all_did (all (ahead old text)) done stop (splits_last (ahead old text) (ahead now t.0) done stop t.2 (stops t.0 t.1)) d
 
-    pub told_front : (old now : Reading S) (done : List T) → Follows old now done → did done
+    told_front : (old now : Reading S) (done : List T) → Follows old now done → did done
         → (text : List ℕ) → text_left left old ≡ Some text → (k : ℕ) × did (take k (all (ahead old text)).0)
     told_front old now done w d text told = (let t = w.told text told in front_did (all (ahead old text)) (all (ahead now t.0)) done t.2 d)
+
+    pub ended : (old now : Reading S) (done : List T) → Follows old now done → did done
+        → ((rest : List ℕ) → text_left left now ≡ Some rest → first (ahead now rest) ≡ Stopped End)
+        → (text : List ℕ) → text_left left old ≡ Some text → ToldDid did (all (ahead old text)) None
+    ended old now done w d stops text told = told_stop old now done End w d stops text told
 
     pub stopped : (old now new : Reading S) (done : List T) (stop : EditStop) → Follows old now done → did done
         → ((rest : List ℕ) → text_left left now ≡ Some rest → Gives left first now new rest (Err stop))
@@ -88,6 +93,10 @@ module _ {S T : Type 0} (left : S → Known) (first : Ahead → Found T) (all : 
     stopped old now new done (Read Overlong) w d gives text told = told_stop old now done TooLong w d gives text told
     stopped old now new done (Read Failed) w d gives text told = told_front old now done w d text told
     stopped old now new done Memory w d gives text told = told_front old now done w d text told
+
+    -- memory was wanting for a turn
+    pub wanting : (old now : Reading S) (done : List T) → Follows old now done → did done → (text : List ℕ) → text_left left old ≡ Some text → ToldDid did (all (ahead old text)) (Some Memory)
+    wanting old now done w d text told = told_front old now done w d text told
 
     pub taken : (faults : S → ℕ) (old now new : Reading S) (done : List T) (stop : EditStop) → Follows old now done → did done
         → Takes left faults first now new (Err stop) → TakenDid did left all old new (Some stop)

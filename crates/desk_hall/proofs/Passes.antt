@@ -1,5 +1,6 @@
 -- Several turns of one pass.
 use Rattle.std.proofs.Common.{◌≡◌, ℕ, List, [], ◌∷◌, ◌++◌, refl, sym, ap, ◌∙◌, subst, inl, inr, append-nil, append_assoc}
+use Rattle.std.specs.Prelude.{Result, Ok, Err, IfOk, OnErr}
 use Rattle.std.proofs.lemmas.List.{map-append}
 use mathlib.Core.List.{IsPrefix}
 use Rattle.journal_model.specs.declared.step.Step.{Step}
@@ -51,13 +52,42 @@ did_idle commands v m w d i = record {
   turned = inr (idle_knows m w i);
 }
 
-pub each_more : {T : Type 0} (step : T → Step) (v m w : View) (values : List T) (value : T) (outcome : Outcome) → DidEach step v m values → Made (step value) outcome m w → DidEach step v w (values ++ value ∷ [])
-each_more {T = T} step v m w values value outcome d e =
-    subst (λ (l : List Command). Did l v w) (sym (map-append (λ (x : T). let c : Command = (v.own.low, step x) in c) values (value ∷ [])))
-    (did_more (commands_by v.own.low step values) (step value) outcome v m w d e)
+module _ {T : Type 0} (step : T → Step) where
+  pub each_none : (v : View) → DidEach step v v []
+  each_none v = did_none v
+
+  pub each_more : (v m w : View) (values : List T) (value : T) (outcome : Outcome) → DidEach step v m values → Made (step value) outcome m w → DidEach step v w (values ++ value ∷ [])
+  each_more v m w values value outcome d e =
+      subst (λ (l : List Command). Did l v w) (sym (map-append (λ (x : T). let c : Command = (v.own.low, step x) in c) values (value ∷ [])))
+      (did_more (commands_by v.own.low step values) (step value) outcome v m w d e)
+
+  pub each_idle : (v m w : View) (values : List T) → DidEach step v m values → Idle m w → DidEach step v w values
+  each_idle v m w values d i = did_idle (commands_by v.own.low step values) v m w d i
 
 abbrev pub did_as : (commands others : List Command) (v w : View) → Did commands v w → commands ≡ others → Did others v w
 did_as commands others v w d e = record { added = d.added; commands_are = d.commands_are ∙ e; gained = d.gained; began = d.began; turned = d.turned }
 
-pub numbers_then : {u v w : View} → KeepsNumbers u v → KeepsNumbers v w → KeepsNumbers u w
-numbers_then a b = record { turns = b.turns ∙ a.turns; low = b.low ∙ a.low; span = b.span ∙ a.span; finished = b.finished ∙ a.finished; on = b.on ∙ a.on }
+-- ---- what stays
+
+keeps_with : (v : View) (seen added : List Entry) → KeepsNumbers v (with_entries v seen added)
+keeps_with v seen added = record { turns = refl; low = refl; span = refl; finished = refl; on = refl }
+
+pub keeps_gained : (v w : View) (seen added : List Entry) → w ≡ with_entries v seen added → KeepsNumbers v w
+keeps_gained v w seen added is = subst (λ (z : View). KeepsNumbers v z) (sym is) (keeps_with v seen added)
+
+keeps_seen : (v : View) (seen : List Entry) → KeepsNumbers v (record v { seen = seen })
+keeps_seen v seen = record { turns = refl; low = refl; span = refl; finished = refl; on = refl }
+
+pub idle_keeps : (v w : View) → Idle v w → KeepsNumbers v w
+idle_keeps v w i = subst (λ (z : View). KeepsNumbers v z) (sym i.same) (keeps_seen v w.seen)
+
+pub made_keeps : (step : Step) (outcome : Outcome) (v w : View) → Made step outcome v w → KeepsNumbers v w
+made_keeps step outcome v w m = keeps_gained v w w.seen (entry_of v.own.low step outcome ∷ []) m.gained
+
+pub did_keeps : (commands : List Command) (v w : View) → Did commands v w → KeepsNumbers v w
+did_keeps commands v w d = keeps_gained v w w.seen d.added d.gained
+
+-- behind a turn that made an entry or none
+pub turn_keeps : {T E : Type 0} (v w : View) (step : Step) (outcome_of : T → Outcome) (r : Result T E) → IfOk r (λ x. Made step (outcome_of x) v w) → OnErr r (Idle v w) → KeepsNumbers v w
+turn_keeps v w step outcome_of (Ok x) made idle = made_keeps step (outcome_of x) v w made
+turn_keeps v w step outcome_of (Err e) made idle = idle_keeps v w idle

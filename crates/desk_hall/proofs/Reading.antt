@@ -7,14 +7,14 @@ use Rattle.si_causes.specs.declared.stop.ReadStop.{ReadStop}
 use Rattle.si_causes.specs.declared.stop.ReadStop.TheVariants.{Failed, TooLong as Overlong}
 use Rattle.input_lines.specs.declared.stop.EditStop.{EditStop}
 use Rattle.input_lines.specs.declared.stop.EditStop.TheVariants.{NoCommand as Refused, Read, Memory}
-use Rattle.input_lines.specs.Ahead.{Ahead, Found, Came, Stop, End, and_all}
+use Rattle.input_lines.specs.Ahead.{Ahead, Found, Came, Stop, and_all}
 use Rattle.input_lines.specs.Reads.{NextOf, Passes, Takes}
 use Rattle.journal_model.specs.declared.step.Step.{Step}
 use Rattle.journal_model.specs.declared.step.Outcome.{Outcome}
 use Rattle.desk_hall.specs.Turn.{View, Made, Idle}
-use Rattle.desk_hall.specs.Reads.{DidEach, HasReadCause, ReaderDid, Stream, commands_by}
-use Rattle.desk_hall.proofs.Passes.{did_idle, did_none, each_more}
-use Rattle.desk_hall.proofs.Follows.{Follows, follows_none, follows_more, stopped, taken, told_front, told_stop}
+use Rattle.desk_hall.specs.Reads.{DidEach, HasReadCause, ReaderDid, Stream}
+use Rattle.desk_hall.proofs.Passes.{each_none, each_more, each_idle}
+use Rattle.desk_hall.proofs.Follows.{Follows, follows_none, follows_more, ended, stopped, wanting, taken}
 
 abbrev Known : Type 0
 Known = Option (List ℕ)
@@ -47,6 +47,13 @@ pub stays_going : {S : Type 0} (o : Option ReadStop) (result : Option EditStop) 
 stays_going None result old new v w e = tt
 stays_going (Some stop) result old new v w e = absurd (cc e)
 
+pub stays_stopped : {S : Type 0} (V : Type 0) (o : Option ReadStop) (stop : EditStop) (old now new : Reading S) (v w : View) → o ≡ old.stop → Stuck o old now v w
+    → IfSome now.stop (λ s. ((let r : Result V EditStop = Err stop in r) ≡ Err (Read s)) × (new ≡ now)) → StaysStopped o (Some stop) old new v w
+stays_stopped V None stop old now new v w e s h = tt
+stays_stopped {S = S} V (Some t) stop old now new v w e s h =
+    let at = subst (λ (o : Option ReadStop). IfSome o (λ z. ((let r : Result V EditStop = Err stop in r) ≡ Err (Read z)) × (new ≡ now))) (ap (λ (r : Reading S). r.stop) s.0 ∙ sym e) h in
+    (cc (at.0), at.1 ∙ s.0, s.1)
+
 module _ {S T : Type 0} (st : Stream S) (first : Ahead → Found T) (all : Ahead → List T × Stop) (go_on : (lines : Ahead) → all lines ≡ and_all (first lines) (λ (value : T). all)) (step : T → Step) where
   -- the values that were read from old to now were done in turns from v to w
   pub record Going (old now : Reading S) (v w : View) : Type 0 where
@@ -61,7 +68,7 @@ module _ {S T : Type 0} (st : Stream S) (first : Ahead → Found T) (all : Ahead
   pub going_none : (reader : Reading S) (v : View) → st.same reader.source reader.source → Going reader reader v v
   going_none reader v same = record {
     done = [];
-    did = did_none v;
+    did = each_none step v;
     follows = λ e. follows_none st.left first all go_on reader;
     going = λ e. e;
     stuck = stuck_same reader.stop reader v;
@@ -98,7 +105,7 @@ module _ {S T : Type 0} (st : Stream S) (first : Ahead → Found T) (all : Ahead
     pub read_end : Reads (Ok None) → ReaderDid step all st v m old new None
     read_end r = record {
       did = (g.done, g.did);
-      told = λ o text told. told_stop st.left first all go_on (DidEach step v m) old now g.done End (g.follows o) g.did (λ rest is. (r.gives (g.going o) rest is).0) text told;
+      told = λ o text told. ended st.left first all go_on (DidEach step v m) old now g.done (g.follows o) g.did (λ rest is. (r.gives (g.going o) rest is).0) text told;
       taken = λ o. tt;
       end = λ o. r.at_end refl;
       cause = λ o. tt;
@@ -127,10 +134,10 @@ module _ {S T : Type 0} (st : Stream S) (first : Ahead → Found T) (all : Ahead
     -- up to want of memory for a turn
     pub read_want : (value : T) → Reads (Ok (Some value)) → Idle m w → ReaderDid step all st v w old new (Some Memory)
     read_want value r i =
-        let did = did_idle (commands_by v.own.low step g.done) v m w g.did i in
+        let did = each_idle step v m w g.done g.did i in
         record {
           did = (g.done, did);
-          told = λ o text told. told_front st.left first all go_on (DidEach step v w) old now g.done (g.follows o) did text told;
+          told = λ o text told. wanting st.left first all go_on (DidEach step v w) old now g.done (g.follows o) did text told;
           taken = λ o. tt;
           end = λ none. absurd (cc none);
           cause = λ o. tt;

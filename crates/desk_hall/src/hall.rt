@@ -125,8 +125,7 @@ impl Hall {
     /// One swap, with what it puts on air: the last publication of the journal that the pass has then seen.
     pub fn swap<W: Wait>(&self, rt: &W, pass: &mut HallPass) -> Result<Airing, AllocError>
         requires turns { pass.old.turns ≡ self.now.turns }
-        ensures made { IfOk result (λ airing.
-            Made Swap (Swapped airing.number airing.moment) pass.old pass.new) }
+        ensures made { IfOk result (λ airing. Made Swap (Swapped airing.number airing.moment) pass.old pass.new) }
         ensures airing { IfOk result (λ airing. IsAiring pass.new airing) }
         ensures within { IfOk result (λ airing. IsGuideWithin airing.guide) }
         ensures moment { IfOk result (λ airing. airing.moment.0 < 65536 * 86400) }

@@ -83,8 +83,7 @@ fn swap(who: u32, desk: &mut Desk) -> Result<Airing, AllocError>
     ensures airing { IfOk result (λ airing. airing ≡ latest_of desk.old) }
     ensures within { IfOk result (λ airing. IsGuideWithin airing.guide) }
     ensures moment { IfOk result (λ airing. airing.moment.0 < 65536 * 86400) }
-    ensures entry { IfOk result (λ airing.
-        desk.new ≡ and_entry desk.old who Swap (Swapped airing.number airing.moment)) }
+    ensures entry { IfOk result (λ airing. desk.new ≡ and_entry desk.old who Swap (Swapped airing.number airing.moment)) }
     ensures memory { OnErr result (desk.new ≡ desk.old) }
 {
     let airing = desk.latest()?;

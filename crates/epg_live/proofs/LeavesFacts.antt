@@ -82,14 +82,13 @@ told_guide None heard some is = (let no : false ≡ true = some in cc no)
 told_guide (Some h) heard some is = ap (λ (x : Heard). Some x) is
 
 module _ (call : LiveCall) (mux : Mux) (behind : Ahead) (journal : List Entry) (observed : Observed) (status : Status) (whole : described call.text ≡ Came (Ok mux) behind)
-    (ran : JobsRan call mux behind journal observed status) (few : length call.paths ≤ 255) where
+    (ran : JobsRan call mux behind journal observed status) where
   pub as_read : IsAsRead mux journal
   as_read =
-      let sound = whole_descriptions_are_sound (ahead_of call.text) mux behind whole in
-      let typed = run_typed call mux behind journal observed status ran few sound.sound in
+      let typed = run_typed call mux behind journal observed status ran in
       let kept = described_texts_are_kept (ahead_of call.text) mux behind whole in
       record {
-        sound = sound;
+        sound = whole_descriptions_are_sound (ahead_of call.text) mux behind whole;
         network = kept.0;
         services = fed_named mux kept.1;
         edits = typed.0;
@@ -141,15 +140,15 @@ leaves paths plan text files opener input air report journal observed met status
 })
 leaves paths plan text files opener input air report journal observed met status few written (inr (inr ((mux, behind, whole, ran), tried))) ends =
     let call = live_call paths plan text files opener input air in
-    let read = as_read call mux behind journal observed met whole ran few in
+    let read = as_read call mux behind journal observed met whole ran in
     inr (record {
       journal = journal;
       observed = observed;
       met = met;
       ran = inr (inr ((mux, behind, whole, ran), tried));
       reported = ends;
-      of_lines = run_of_lines call mux behind journal observed met ran few read.sound.sound written;
+      of_lines = run_of_lines call mux behind journal observed met ran read.sound.sound few written;
       again = is_script text mux behind journal whole ran.journal_is.legal;
       sent = inr (mux, behind, whole, air_sent mux journal air.old air.new ran.sent read ran.journal_is.legal ran.air_is);
-      shown = λ done sent knows. (mux, behind, whole, ran_shown call mux behind journal observed met whole ran few done sent knows);
+      shown = λ done sent knows. (mux, behind, whole, ran_shown call mux behind journal observed met whole ran done sent knows);
     })

@@ -1,6 +1,6 @@
 -- What a run met, where no job started and where jobs ran, and how its report ends.
-use Rattle.std.proofs.Common.{◌≡◌, ◌⊎◌, inl, inr, ℕ, List, [], take, refl, ap, ◌∙◌, subst, ◌++◌, append-nil}
-use Rattle.std.specs.Prelude.{Option, Some, Ok, Err, None}
+use Rattle.std.proofs.Common.{◌≡◌, ◌⊎◌, inl, inr, ℕ, List, [], take, refl, ap, ◌∙◌, subst}
+use Rattle.std.specs.Prelude.{Option, None, Some, Ok, Err}
 use Rattle.std.specs.Io.KnownBytes.{Consumes}
 use Rattle.headend_live.specs.declared.live.LivePlan.{LivePlan}
 use Rattle.si_causes.specs.Causes.{Rose}
@@ -13,9 +13,12 @@ use Rattle.mux_config.specs.declared.stop.MuxStop.{MuxStop}
 use Rattle.mux_config.specs.declared.stop.MuxStop.TheVariants as mux
 use Rattle.mux_config.specs.Descriptions.{description_ahead}
 use Rattle.mux_config.specs.Reads.{ReadMux}
-use Rattle.mux_config.proofs.Reading.{fault_read, read_stopped, first_read}
-use Rattle.input_lines.specs.Ahead.{Breaks, ahead, Came}
+use Rattle.mux_config.proofs.Reading.{fault_read, read_stopped}
+use Rattle.input_lines.specs.declared.stop.EditStop.TheVariants as edit
+use Rattle.input_lines.specs.Ahead.{Breaks, ahead}
 use Rattle.input_lines.specs.Reads.{ahead_with}
+use Rattle.headend_jobs.specs.declared.live.LiveStop.{LiveStop}
+use Rattle.headend_jobs.specs.declared.live.LiveStop.TheVariants as live
 use Rattle.epg_report.specs.declared.status.Status.{Status}
 use Rattle.epg_report.specs.declared.status.Status.TheVariants.{Done, Usage, Disagrees, BadMux, BadStream, TooLong, OpenFault, ReadFault, WriteFault, Memory, NoView, NotAir, Short, TooMany, BadCheckpoint}
 use Rattle.epg_report.specs.declared.status.Origin.TheVariants.{Input, Recording}
@@ -24,55 +27,13 @@ use Rattle.epg_report.specs.Ends.{ReportEnds}
 use Rattle.epg_report.specs.Texts.{CanBeSaid}
 use Rattle.epg_report.specs.Told.{OpenerAsked, ReportTaken, SourceGave, asked, gave}
 use Rattle.epg_live.specs.Opened.{HasTried, NotOpened}
-use Rattle.epg_live.specs.Stops.{HasStatusCause, IsMet, IsOfLive, mux_status}
-use Rattle.epg_live.specs.Runs.{EndsBefore, live_call, ControlTook, HasRead}
-use Rattle.epg_live.specs.Ends.{HasAsked, asked_before}
+use Rattle.epg_live.specs.Stops.{HasStatusCause, IsMet, IsOfLive, live_status, mux_status}
+use Rattle.epg_live.specs.Runs.{EndsBefore, live_call}
+use Rattle.epg_live.specs.Ends.{AskedFor, HasAsked, asked_before}
 use Rattle.epg_live.specs.Met.{StopsBefore}
 use Rattle.epg_live.specs.Views.{unserved}
+use Rattle.epg_live.proofs.DescribedFacts.{bytes_left, has_read}
 use Rattle.epg_live.proofs.OpenFacts.{tried_none}
-use Rattle.input_lines.specs.Going.{WereWhole}
-use Rattle.input_lines.proofs.Steps.{whole_more}
-use Rattle.input_lines.specs.declared.stop.EditStop.{EditStop}
-use Rattle.input_lines.specs.declared.stop.EditStop.TheVariants as edit
-use Rattle.journal_model.specs.declared.step.Entry.{Entry}
-use Rattle.journal_model.specs.Steps.{Command}
-use Rattle.desk_hall.specs.Reads.{TakenDid, commands_by, control_step, controls_ahead}
-use Rattle.headend_jobs.specs.Callers.{CommandsAre}
-use Rattle.mux_config.specs.Texts.{ahead_taken}
-
--- ---- what reading the description told of the text of the input
-
--- of known bytes some were taken, and the others are left
-pub bytes_left : (left : Option (List ℕ)) (text taken : List ℕ) → Consumes (Some text) left taken → (rest : List ℕ) × (text ≡ taken ++ rest) × (left ≡ Some rest)
-bytes_left None text taken h = absurd h
-bytes_left (Some rest) text taken h = (rest, h, refl)
-
-module _ {S : Type 0} (left : S → Option (List ℕ)) (faults : S → ℕ) (alike : S → S → Type 0) where
-  -- a multiplex was described, and the reader has what is behind it still to give
-  pub has_read : (new : Reading S) (source : S) (text : List ℕ) (mux : Mux) → left source ≡ Some text → ReadMux left faults alike (fresh source) new (Ok mux) → HasRead left text mux new
-  has_read new source text mux tells read =
-      let first = first_read left faults alike (fresh source) new source text mux refl tells read in
-      record { source = source; tells = tells; read = first.0; came = first.1 }
-
-  -- The commands of the control's lines that were whole in the bytes taken, where a read of them failed: these bytes are a front of the text.
-  pub control_took : (text : List ℕ) (mux : Mux) (old new : Reading S) (journal : List Entry) (then : List Command) (stop : Option EditStop) → HasRead left text mux old
-      → TakenDid (λ values. CommandsAre journal 0 (commands_by 0 control_step values ++ then)) left controls_ahead old new stop → (stop ≡ Some (edit.Read Failed) → then ≡ [])
-      → ControlTook text (left new.source) mux journal stop
-  control_took text mux old new journal then None h did none = tt
-  control_took text mux old new journal then (Some (edit.NoCommand n)) h did none = tt
-  control_took text mux old new journal then (Some (edit.Read Overlong)) h did none = tt
-  control_took text mux old new journal then (Some edit.Memory) h did none = tt
-  control_took text mux old new journal then (Some (edit.Read Failed)) h did none =
-      let both : WereWhole left (fresh h.source) new (h.came.looked.lines ++ did.lines) = whole_more left (fresh h.source) old new h.came.looked.lines did.lines h.came.looked.handed did.unended did.whole in
-      let whole : description_ahead (ahead_taken both.more) ≡ Came (Ok mux) (ahead_with old did.lines Breaks) = ap (λ l. description_ahead (ahead_with (fresh h.source) l Breaks)) both.whole ∙ h.came.reads did.lines Breaks in
-      let b = bytes_left (left new.source) text both.more (subst (λ (o : Option (List ℕ)). Consumes o (left new.source) both.more) h.tells both.gave) in
-      let commands = commands_by 0 control_step (controls_ahead (ahead_with old did.lines Breaks)).0 in
-      record {
-        behind = ahead_with old did.lines Breaks;
-        taken = record { taken = both.more; rest = b.0; text_is = b.1; left_is = b.2; whole = whole };
-        stop = did.stop;
-        commands = did.commands ∙ ap (λ l. commands ++ l) (none refl) ∙ append-nil commands;
-      }
 
 -- ---- where no job started
 
@@ -148,6 +109,28 @@ module _ {O S : Type 0} (files : O → Option Files) (tried : O → Option (List
   -- no memory for what its words say
   pub plan_before : StopsUnasked Memory
   plan_before = memory_before paths plan _ _ (none_asked paths (tried o))
+
+-- ---- where jobs ran
+
+-- what is known of the status of a run whose jobs started
+pub record IsOfJobs (met : Status) : Type 0 where
+  pub known : IsMet met
+  pub said : CanBeSaid met
+  pub all_asked : (n : ℕ) → AskedFor n n met
+  pub not_open : (f : ℕ) → met ≡ OpenFault f → ⊥
+
+pub of_jobs : (stop : Option LiveStop) → IsOfJobs (live_status stop)
+of_jobs None = record { known = tt; said = tt; all_asked = λ n. refl; not_open = λ f e. cc e }
+of_jobs (Some live.Air) = record { known = tt; said = tt; all_asked = λ n. refl; not_open = λ f e. cc e }
+of_jobs (Some (live.Control (edit.NoCommand n))) = record { known = tt; said = tt; all_asked = λ n. refl; not_open = λ f e. cc e }
+of_jobs (Some (live.Control (edit.Read Failed))) = record { known = tt; said = tt; all_asked = λ n. inr refl; not_open = λ f e. cc e }
+of_jobs (Some (live.Control (edit.Read Overlong))) = record { known = tt; said = tt; all_asked = λ n. inr refl; not_open = λ f e. cc e }
+of_jobs (Some (live.Control edit.Memory)) = record { known = tt; said = tt; all_asked = λ n. tt; not_open = λ f e. cc e }
+of_jobs (Some (live.Feed f (edit.NoCommand n))) = record { known = tt; said = tt; all_asked = λ n. refl; not_open = λ f e. cc e }
+of_jobs (Some (live.Feed f (edit.Read Failed))) = record { known = tt; said = tt; all_asked = λ n. refl; not_open = λ f e. cc e }
+of_jobs (Some (live.Feed f (edit.Read Overlong))) = record { known = tt; said = tt; all_asked = λ n. refl; not_open = λ f e. cc e }
+of_jobs (Some (live.Feed f edit.Memory)) = record { known = tt; said = tt; all_asked = λ n. tt; not_open = λ f e. cc e }
+of_jobs (Some live.Memory) = record { known = tt; said = tt; all_asked = λ n. tt; not_open = λ f e. cc e }
 
 -- ---- the report
 

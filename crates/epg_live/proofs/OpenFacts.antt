@@ -2,13 +2,12 @@
 use Rattle.std.proofs.Common.{◌≡◌, ℕ, ◌+◌, ◌≤◌, ◌<◌, arith, List, [], ◌∷◌, ◌++◌, length, take, refl, sym, ap, ◌∙◌, append_assoc, append-nil, subst}
 use Rattle.std.specs.Prelude.{Option, Some, None, String, string_bytes, get_or}
 use Rattle.std.proofs.lemmas.List.{get_or-map, length-map, take_all, take_more}
-use Rattle.si_lists.proofs.Lists.{all_at, all_front, all_map, all_push}
 use Rattle.command_words.specs.Commands.{texts}
 use Rattle.si_causes.specs.Causes.{Rose}
 use Rattle.si_causes.specs.Opening.{Files, TakesBack, Tries}
 use Rattle.si_causes.specs.Reading.{Reading}
 use Rattle.si_causes.proofs.CauseFacts.{Rose-from, Rose-to}
-use Rattle.epg_live.specs.Opened.{Adds, AreOpened, Closes, HasTried, IsOpened, NoneFailed}
+use Rattle.epg_live.specs.Opened.{Adds, AreOpened, Closes, HasTried, IfFailed, IsOpened, NoneFailed}
 
 -- ---- what was asked for
 
@@ -33,6 +32,12 @@ module _ {S : Type 0} (left : S → Option (List ℕ)) (faults : S → ℕ) (fil
   opened_more (p ∷ ps) [] path reader opened one = absurd opened
   opened_more (p ∷ ps) (r ∷ rs) path reader (here, opened) one = (here, opened_more ps rs path reader opened one)
 
+  pub opened_length : (paths : List (List ℕ)) (readers : List (Reading S)) → AreOpened left faults files paths readers → length readers ≡ length paths
+  opened_length [] [] opened = refl
+  opened_length [] (r ∷ rs) opened = absurd opened
+  opened_length (p ∷ ps) [] opened = absurd opened
+  opened_length (p ∷ ps) (r ∷ rs) (here, opened) = let more : length rs ≡ length ps = opened_length ps rs opened in omega (arith, more)
+
   pub opened_sound : (paths : List (List ℕ)) (readers : List (Reading S)) → AreOpened left faults files paths readers → NoneFailed faults readers
   opened_sound [] [] opened = tt
   opened_sound [] (r ∷ rs) opened = absurd opened
@@ -42,13 +47,26 @@ module _ {S : Type 0} (left : S → Option (List ℕ)) (faults : S → ℕ) (fil
 -- ---- closing
 
 module _ {S : Type 0} (faults : S → ℕ) where
+  failed_later : (before mid now : ℕ) (readers : List (Reading S)) → before ≤ mid → mid ≤ now → IfFailed faults (Rose before mid) readers → IfFailed faults (Rose before now) readers
+  failed_later before mid now [] le later rose = tt
+  failed_later before mid now (r ∷ rs) le later (here, rose) = (λ failed. Rose-to before mid now le (here failed) later, failed_later before mid now rs le later rose)
+
+  failed_more : (P : Type 0) (readers : List (Reading S)) (reader : Reading S) → IfFailed faults P readers → (0 < faults reader.source → P) → IfFailed faults P (readers ++ reader ∷ [])
+  failed_more P [] reader rose one = (one, tt)
+  failed_more P (r ∷ rs) reader (here, rose) one = (here, failed_more P rs reader rose one)
+
+  none_front : (readers : List (Reading S)) (reader : Reading S) → NoneFailed faults (readers ++ reader ∷ []) → NoneFailed faults readers × (faults reader.source ≡ 0)
+  none_front [] reader none = (tt, none.0)
+  none_front (r ∷ rs) reader (here, none) = ((here, (none_front rs reader none).0), (none_front rs reader none).1)
+
+  pub closes_none : (now : ℕ) → Closes faults [] now now
+  closes_none now = record { later = omega arith; rose = tt; kept = λ none. refl }
+
   pub closes_more : (before mid now : ℕ) (readers : List (Reading S)) (reader : Reading S) → Closes faults readers before mid → TakesBack (faults reader.source) mid now → Closes faults (readers ++ reader ∷ []) before now
   closes_more before mid now readers reader closes takes = record {
     later = omega (arith, closes.later, takes.later);
-    rose = all_push (λ (r : Reading S). 0 < faults r.source → Rose before now) readers reader
-        (all_map (λ (r : Reading S). 0 < faults r.source → Rose before mid) (λ (r : Reading S). 0 < faults r.source → Rose before now) (λ r rose failed. Rose-to before mid now closes.later (rose failed) takes.later) readers closes.rose)
-        (λ failed. Rose-from before mid now closes.later (takes.rose failed));
-    kept = λ none. takes.kept (all_at (λ (r : Reading S). faults r.source ≡ 0) readers reader [] none) ∙ closes.kept (all_front (λ (r : Reading S). faults r.source ≡ 0) readers (reader ∷ []) none);
+    rose = failed_more (Rose before now) readers reader (failed_later before mid now readers closes.later takes.later closes.rose) (λ failed. Rose-from before mid now closes.later (takes.rose failed));
+    kept = λ none. takes.kept (none_front readers reader none).1 ∙ closes.kept (none_front readers reader none).0;
   }
 
 -- ---- the paths

@@ -43,9 +43,10 @@ use Rattle.epg_live.specs.Opened.{AreOpened, HasTried, IfFailed, IsOpened}
 use Rattle.epg_live.specs.Stops.{HasStatusCause, HaveReadCauses, live_status}
 use Rattle.epg_live.specs.Met.{LiveMet}
 use Rattle.epg_live.specs.Runs.{CallerDid, ControlTook, FeedsDid, Ran, live_call}
-use Rattle.epg_live.proofs.MetFacts.{control_took, has_read}
-use Rattle.std.proofs.lemmas.Slice.Zip.{AllZip-long}
-use Rattle.epg_live.proofs.StopFacts.{done_control, done_none, done_told, memory_or, of_jobs, run_caused, unless_wanting}
+use Rattle.epg_live.proofs.DescribedFacts.{control_took, has_read}
+use Rattle.epg_live.proofs.MetFacts.{of_jobs}
+use Rattle.epg_live.proofs.OpenFacts.{opened_length}
+use Rattle.epg_live.proofs.StopFacts.{done_control, done_none, done_told, memory_or, run_caused, unless_wanting}
 
 -- ---- the feeds
 
@@ -123,9 +124,9 @@ told_of mux end = record {
 module _ {F S : Type 0} (st : Streams F S) (mux : Mux) (plan : LivePlan) (feeds : List (Reading F)) (control : Reading S) (paths : List (List ℕ)) (opener : OpenerAsked) (source : S) (air : ReportTaken)
     (end : LiveEnd F S) (w : WatchedRan st mux plan feeds control (taken_of air) end) (read : ReadMux st.control.left st.control.faults st.control.same (fresh source) control (Ok mux))
     (opened : AreOpened st.feeds.left st.feeds.faults opener.files paths feeds) (tried : HasTried opener.tried_old opener.tried_new paths)
-    (rose : IfFailed st.feeds.faults (Rose opener.read_old opener.read_new) end.inputs.feeds.items) (served : unserved mux plan.views ≡ None) where
+    (rose : IfFailed st.feeds.faults (Rose opener.read_old opener.read_new) end.feeds.items) (served : unserved mux plan.views ≡ None) where
   abbrev now : S
-  now = end.inputs.control.source
+  now = end.control.source
 
   abbrev journal : List Entry
   journal = end.desk.entries
@@ -178,7 +179,7 @@ module _ {F S : Type 0} (st : Streams F S) (mux : Mux) (plan : LivePlan) (feeds 
                 (control_took st.control.left st.control.faults st.control.same text mux control w.ran.did.control.lines journal (map command_of w.ran.did.final) stop has (w.ran.commands.control_read.taken going) none);
             player_did = w.ran.commands.player_swapped;
             feeds_did = feeds_did st.feeds files journal 1 paths feeds w.ran.did.feeds opened_files w.ran.commands.feeds_read;
-            others = λ k le. w.ran.commands.others k (omega (arith, le, AllZip-long (IsOpened st.feeds.left st.feeds.faults (Some files)) paths feeds opened_files));
+            others = λ k le. w.ran.commands.others k (omega (arith, le, opened_length st.feeds.left st.feeds.faults (Some files) paths feeds opened_files));
             front = w.ran.did.journal_did.front;
             ends = w.ran.did.journal_did.ends;
           };
@@ -217,6 +218,6 @@ module _ {F S : Type 0} (st : Streams F S) (mux : Mux) (plan : LivePlan) (feeds 
 
 -- the input is the one that was lent
 pub watched_same : {F S : Type 0} (st : Streams F S) (mux : Mux) (plan : LivePlan) (feeds : List (Reading F)) (control : Reading S) (air : Taken) (end : LiveEnd F S) → WatchedRan st mux plan feeds control air end
-    → st.control.same control.source end.inputs.control.source
+    → st.control.same control.source end.control.source
 watched_same {S = S} st mux plan feeds control air end w =
     subst (λ (s : S). st.control.same control.source s) (sym (ap (λ (r : Reading S). r.source) w.ran.control_is)) w.ran.did.control_did.same

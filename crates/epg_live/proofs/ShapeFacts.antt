@@ -1,4 +1,4 @@
--- Each edit that is read has its shapes, and each tick a moment that can be written.
+-- Each edit that is read has its shapes.
 use Rattle.std.proofs.Common.{◌≡◌, ◌≤◌, ℕ, zero, suc, Bool, true, false, List, [], ◌∷◌, length, refl, arith, inl, inr}
 use Rattle.std.specs.Prelude.{Option, Some, None, IfSome, codes, option_and_then, option_map, if◌then◌else◌}
 use Rattle.std.specs.List.{AllByRecursion}
@@ -6,7 +6,7 @@ use Rattle.std.proofs.lemmas.Bool.{cases_Bool}
 use Rattle.std.proofs.lemmas.List.Elements.{All-from_recursion}
 use Rattle.si_lists.proofs.Outcomes.{any_some, if_some, then_some}
 use Rattle.si_time.specs.Readings.{has_shape}
-use Rattle.input_lines.specs.Ahead.{Ahead, IfCame, Row, missing_at, on_line}
+use Rattle.input_lines.specs.Ahead.{Ahead, IfCame, Row, missing_at}
 use Rattle.input_lines.specs.Fields.{record_of}
 use Rattle.input_lines.specs.Numbers.{is_word, number_in}
 use Rattle.input_lines.proofs.ValuesAhead.{begun_came, line_came, then_came, values_came}
@@ -20,11 +20,6 @@ use Rattle.script_lines.specs.Edits.{edit_from, edits_ahead, first_item, items_o
 use Rattle.script_lines.proofs.EditFacts.{head_in}
 use Rattle.script_lines.proofs.EditTypes.{number_within}
 use Rattle.script_lines.proofs.Shapes.{item_shaped}
-use Rattle.journal_model.specs.declared.control.Control.{Control}
-use Rattle.journal_model.specs.Steps.{IsControlWithin}
-use Rattle.script_lines.specs.Controls.{control_of}
-use Rattle.script_lines.proofs.ControlFacts.{control_window}
-use Rattle.desk_hall.specs.Reads.{controls_ahead}
 
 by_cases : {A : Type 0} (P : A → Type 0) (o : Option A) → ((x : A) → o ≡ Some x → P x) → IfSome o P
 by_cases P None h = tt
@@ -135,16 +130,3 @@ pub ahead_shaped : (lines : Ahead) → AllByRecursion IsShaped (edits_ahead line
 unfolding edits_ahead
 ahead_shaped lines =
     values_came (λ (any : Unit {0}) (row : Row) (behind : Ahead). edit_from row.0 (head_in row.1) behind) (λ (edit : Edit). tt) IsShaped (λ any. row_shaped) tt lines
-
--- ---- the ticks of control lines are at moments that can be written
-
-line_within : (any : Unit {0}) (row : Row) (behind : Ahead) → IfCame IsControlWithin (on_line row.0 (option_and_then control_of (record_of row.1)) behind)
-line_within any row behind =
-    line_came IsControlWithin row.0 (option_and_then control_of (record_of row.1)) behind
-    (then_some (λ (fields : List (List ℕ)). Unit {0}) IsControlWithin control_of (record_of row.1) (any_some (record_of row.1)) (λ fields any. control_window fields))
-
-pub controls_within : (lines : Ahead) → AllByRecursion IsControlWithin (controls_ahead lines).0
-unfolding controls_ahead
-controls_within lines =
-    values_came (λ (any : Unit {0}) (row : Row) (behind : Ahead). on_line row.0 (option_and_then control_of (record_of row.1)) behind) (λ (control : Control). tt) IsControlWithin
-    line_within tt lines

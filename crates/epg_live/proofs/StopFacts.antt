@@ -15,10 +15,8 @@ use Rattle.headend_live.specs.Watched.{watched_stop}
 use Rattle.guide_screen.specs.declared.need.Heard.{Heard}
 use Rattle.headend_live.proofs.Viewed.{and_none, no_stop}
 use Rattle.epg_report.specs.declared.status.Status.{Status}
-use Rattle.epg_report.specs.declared.status.Status.TheVariants.{Done, OpenFault}
-use Rattle.epg_report.specs.Texts.{CanBeSaid}
-use Rattle.epg_live.specs.Stops.{HaveReadCauses, HasStatusCause, IsMet, live_status}
-use Rattle.epg_live.specs.Ends.{AskedFor}
+use Rattle.epg_report.specs.declared.status.Status.TheVariants.{Done}
+use Rattle.epg_live.specs.Stops.{HaveReadCauses, HasStatusCause, live_status}
 
 -- what holds of either holds of the one that is taken
 after_keeps : (P : Option LiveStop → Type 0) (first : LiveStop) (b : Option LiveStop) → P (Some live.Memory) → P (Some first) → P (after first b)
@@ -39,30 +37,19 @@ no_control (Some (edit.NoCommand n)) e = cc
 no_control (Some (edit.Read s)) e = cc
 no_control (Some edit.Memory) e = cc
 
--- what is known of the status of a run whose jobs started
-pub record IsOfJobs (stop : Option LiveStop) (met : Status) : Type 0 where
-  pub known : IsMet met
-  pub said : CanBeSaid met
-  pub all_asked : (n : ℕ) → AskedFor n n met
-  pub not_open : (f : ℕ) → met ≡ OpenFault f → ⊥
-  pub done : met ≡ Done → stop ≡ None
-
-pub of_jobs : (stop : Option LiveStop) → IsOfJobs stop (live_status stop)
-of_jobs None = record { known = tt; said = tt; all_asked = λ n. refl; not_open = λ f e. cc e; done = λ e. refl }
-of_jobs (Some live.Air) = record { known = tt; said = tt; all_asked = λ n. refl; not_open = λ f e. cc e; done = λ e. cc e }
-of_jobs (Some (live.Control (edit.NoCommand n))) = record { known = tt; said = tt; all_asked = λ n. refl; not_open = λ f e. cc e; done = λ e. cc e }
-of_jobs (Some (live.Control (edit.Read Failed))) = record { known = tt; said = tt; all_asked = λ n. inr refl; not_open = λ f e. cc e; done = λ e. cc e }
-of_jobs (Some (live.Control (edit.Read Overlong))) = record { known = tt; said = tt; all_asked = λ n. inr refl; not_open = λ f e. cc e; done = λ e. cc e }
-of_jobs (Some (live.Control edit.Memory)) = record { known = tt; said = tt; all_asked = λ n. tt; not_open = λ f e. cc e; done = λ e. cc e }
-of_jobs (Some (live.Feed f (edit.NoCommand n))) = record { known = tt; said = tt; all_asked = λ n. refl; not_open = λ f e. cc e; done = λ e. cc e }
-of_jobs (Some (live.Feed f (edit.Read Failed))) = record { known = tt; said = tt; all_asked = λ n. refl; not_open = λ f e. cc e; done = λ e. cc e }
-of_jobs (Some (live.Feed f (edit.Read Overlong))) = record { known = tt; said = tt; all_asked = λ n. refl; not_open = λ f e. cc e; done = λ e. cc e }
-of_jobs (Some (live.Feed f edit.Memory)) = record { known = tt; said = tt; all_asked = λ n. tt; not_open = λ f e. cc e; done = λ e. cc e }
-of_jobs (Some live.Memory) = record { known = tt; said = tt; all_asked = λ n. tt; not_open = λ f e. cc e; done = λ e. cc e }
-
 -- Done exactly where there is no stop
 pub done_none : (stop : Option LiveStop) → live_status stop ≡ Done → stop ≡ None
-done_none stop e = (of_jobs stop).done e
+done_none None e = refl
+done_none (Some live.Air) e = cc
+done_none (Some live.Memory) e = cc
+done_none (Some (live.Control (edit.NoCommand n))) e = cc
+done_none (Some (live.Control (edit.Read Failed))) e = cc
+done_none (Some (live.Control (edit.Read Overlong))) e = cc
+done_none (Some (live.Control edit.Memory)) e = cc
+done_none (Some (live.Feed f (edit.NoCommand n))) e = cc
+done_none (Some (live.Feed f (edit.Read Failed))) e = cc
+done_none (Some (live.Feed f (edit.Read Overlong))) e = cc
+done_none (Some (live.Feed f edit.Memory)) e = cc
 
 -- so a guide that is told where there is none is told with Done
 pub done_told : (heard : Option Heard) (end : Option LiveStop) (met : Status) → met ≡ live_status end → IsSome heard ↔ (end ≡ None) → IsSome heard ↔ (met ≡ Done)

@@ -1,6 +1,5 @@
 -- The files of the feeds: what an opener was asked for, the readers that it gave, and how they were closed.
 use Rattle.std.specs.Prelude.{◌≡◌, ℕ, ◌<◌, ◌≤◌, List, [], ◌∷◌, ◌++◌, length, take, Option, None, Some}
-use Rattle.std.specs.List.{AllByRecursion, AllZip}
 use Rattle.si_causes.specs.Causes.{Rose}
 use Rattle.si_causes.specs.Opening.{Files, GivesFile}
 use Rattle.si_causes.specs.Reading.{Reading, fresh}
@@ -23,7 +22,10 @@ pub record IsOpened {S : Type 0} (left : S → Option (List ℕ)) (faults : S �
 
 -- a reader for each of these paths, in order
 abbrev pub AreOpened : {S : Type 0} → (S → Option (List ℕ)) → (S → ℕ) → Option Files → List (List ℕ) → List (Reading S) → Type 0
-AreOpened left faults files paths readers = AllZip (IsOpened left faults files) paths readers
+AreOpened left faults files [] [] = Unit {0}
+AreOpened left faults files [] (reader ∷ readers) = ⊥
+AreOpened left faults files (path ∷ paths) [] = ⊥
+AreOpened left faults files (path ∷ paths) (reader ∷ readers) = IsOpened left faults files path reader × AreOpened left faults files paths readers
 
 -- a reader of the file of this path was added
 abbrev pub Adds : {S : Type 0} → (S → Option (List ℕ)) → (S → ℕ) → Option Files → List ℕ → List (Reading S) → List (Reading S) → Type 0
@@ -46,11 +48,13 @@ NotOpened paths opener status = ⊥
 
 -- no source of these has failed
 abbrev pub NoneFailed : {S : Type 0} → (S → ℕ) → List (Reading S) → Type 0
-NoneFailed {S} faults readers = AllByRecursion (λ (reader : Reading S). faults reader.source ≡ 0) readers
+NoneFailed faults [] = Unit {0}
+NoneFailed faults (reader ∷ readers) = (faults reader.source ≡ 0) × NoneFailed faults readers
 
 -- where a source of these has failed, this holds
 abbrev pub IfFailed : {S : Type 0} → (S → ℕ) → Type 0 → List (Reading S) → Type 0
-IfFailed {S} faults holds readers = AllByRecursion (λ (reader : Reading S). 0 < faults reader.source → holds) readers
+IfFailed faults holds [] = Unit {0}
+IfFailed faults holds (reader ∷ readers) = (0 < faults reader.source → holds) × IfFailed faults holds readers
 
 -- all were closed: the count of read faults rose exactly where the source of one has failed
 pub record Closes {S : Type 0} (faults : S → ℕ) (readers : List (Reading S)) (before now : ℕ) : Type 0 where

@@ -155,8 +155,7 @@ fn put_observed(alloc: Global, out: &mut Vec<u8>, observed: &Observed) -> Result
 // The whole report.
 fn report_of(alloc: Global, run: &LiveResult) -> Result<Vec<u8>, AllocError>
     requires { CanBeSaid run.now.met }
-    ensures text { IfOk result (λ text. text.items ≡
-        run_text (entries_of run.now.desk) run.now.observed ++ fault_lines run.now.met) }
+    ensures text { IfOk result (λ text. text.items ≡ run_text (entries_of run.now.desk) run.now.observed ++ fault_lines run.now.met) }
     ensures written { OnOk result (AllByRecursion IsWritten (entries_of run.now.desk)) }
 {
     let mut text = match &run.desk {

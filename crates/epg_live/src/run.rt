@@ -15,7 +15,7 @@ use crate::feeds::{close_feeds, open_feeds};
 use crate::reporting::{LiveResult, Observed};
 use command_words::LiveWords;
 use epg_report::{Origin, Outlet, Status};
-use headend_live::{Inputs, LivePlan, LiveStop, Readers, run_live};
+use headend_live::{LivePlan, LiveStop, Readers, run_live};
 use mux_config::{MuxStop, read_mux};
 use mux_model::Mux;
 use script_lines::EditStop;
@@ -73,6 +73,13 @@ fn live_status(stop: Option<LiveStop>) -> Status
     }
 }
 
+// Whether feeds edit a service with this number.
+fn has_service(mux: &Mux, service: u16) -> bool
+    ensures { result ≡ has_service mux.now service }
+{
+    mux.has_fed(service)
+}
+
 // The first of these services that feeds do not edit.
 fn first_unserved<'v>(mux: &Mux, views: &'v [u16]) -> Option<&'v u16>
     ensures { option_copied result ≡ unserved mux.now views.now }
@@ -80,7 +87,7 @@ fn first_unserved<'v>(mux: &Mux, views: &'v [u16]) -> Option<&'v u16>
     views.iter().find(
         |service: &&u16| -> bool
             ensures { result ≡ not (has_service mux.entry.now service.now.now) }
-        { !mux.has_fed(**service) },
+        { !has_service(mux, **service) },
     )
 }
 
@@ -130,8 +137,7 @@ fn begin<O: Opener, S: Source>(
     ensures stopped { IfErr result (StopsBefore (texts words.now.feeds.items) (plan_of words.now)
         (asked O.files O.tried O.faults O.read_faults opener.old opener.new)
         (gave S.left S.faults lines.old.source lines.new.source)) }
-    ensures kept { (O.read_faults opener.new ≡ O.read_faults opener.old)
-        × S.same lines.old.source lines.new.source }
+    ensures kept { (O.read_faults opener.new ≡ O.read_faults opener.old) × S.same lines.old.source lines.new.source }
 {
     let mux = match read_mux(alloc, lines) {
         Ok(mux) => mux,
@@ -180,12 +186,17 @@ fn run_described<W: Threads + Wait + Sync, O: Opener, S: Source + Send, A: Sink 
         }
     };
     let rate = begun.mux.rate;
-    let inputs = Inputs {
-        feeds: begun.feeds,
-        control: lines,
-    };
-    let end = run_live(rt, alloc, begun.mux, begun.plan, inputs, air, gate)?;
-    close_feeds(opener, end.inputs.feeds);
+    let end = run_live(
+        rt,
+        alloc,
+        begun.mux,
+        begun.plan,
+        begun.feeds,
+        lines,
+        air,
+        gate,
+    )?;
+    close_feeds(opener, end.feeds);
     let met = live_status(end.stop);
     let observed = Observed {
         dones: end.dones,
@@ -200,7 +211,7 @@ fn run_described<W: Threads + Wait + Sync, O: Opener, S: Source + Send, A: Sink 
         observed,
         met,
     };
-    let source = end.inputs.control.close();
+    let source = end.control.close();
     Ok((run, source))
 }
 

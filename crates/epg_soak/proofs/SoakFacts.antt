@@ -163,12 +163,12 @@ module _ (number : ℕ) (air report : ReportTaken) (run : LiveResult) (status : 
   sent_air : (met : Status) → RanOfLoad met → SentAir soak_mux journal air.old air.new
   sent_air met (mux, behind, whole, ran) =
       subst (λ (m : Mux). SentAir m journal air.old air.new) (same_mux mux soak_mux behind control_behind (described soak_text) description_read.1 whole)
-      (air_sent mux journal air.old air.new ran.sent (as_read (load_call number load.left air) mux behind journal run.observed met whole ran (omega arith)) ran.journal_is.legal ran.air_is)
+      (air_sent mux journal air.old air.new ran.sent (as_read (load_call number load.left air) mux behind journal run.observed met whole ran) ran.journal_is.legal ran.air_is)
 
   summary_said : MetOfLoad number load.left air run Done → RanOfLoad Done → (sent : List ℕ) → air.old ≡ Some sent → summary_text journal run.observed.guide ≡ soak_summary number
   summary_said has (mux, behind, whole, ran) sent knows =
       let same = same_mux mux soak_mux behind control_behind (described soak_text) description_read.1 whole in
-      let last = ran_shown (load_call number load.left air) mux behind journal run.observed Done whole ran (omega arith) refl sent knows in
+      let last = ran_shown (load_call number load.left air) mux behind journal run.observed Done whole ran refl sent knows in
       let shown = last.shown (omega arith) in
       let counted = done_counted number journal (whole_run has) in
       summary_is number journal run.observed.guide shown.0 counted.0 counted.2.edits counted.2.done (runs_whole number journal (whole_run has))

@@ -24,7 +24,7 @@ use Rattle.cycle_player.specs.Making.{tick_then}
 use Rattle.journal_air.specs.Air.{airings, airings_by}
 use Rattle.headend_jobs.specs.Playing.{AreTicks, HasPlayedTo, IsNextTick, SwapsPlayed, TurnsMade}
 use Rattle.headend_jobs.specs.Ticking.{tick_by, tick_of, ticks_for, ticks_of, turns_by}
-use Rattle.headend_jobs.proofs.Joining.{feeds_len}
+use Rattle.headend_jobs.proofs.Cutting.{feeds_len}
 use Rattle.headend_jobs.proofs.Ending.{airs_are}
 use Rattle.headend_jobs.proofs.Running.{feeds_back, swaps_did}
 use Rattle.headend_jobs.proofs.Ticking.{own_tick, own_ticks, ticks_len}
@@ -128,6 +128,10 @@ module _ (mux : Mux) (journal final : List Entry) (v w : View) (old new : Sendin
             (taken_tick t.more 1 t.tick (tick_of mux journal k) (λ some. tick_told commands t.did t.ticks t.tick t.ticks_are (t.tick_is some))),
       )
 
+-- the player's pass keeps its number
+swaps_low : (mux : Mux) (n : ℕ) (v w : View) (old new : Sending) (mid now : Option (List ℕ)) (end : Result (Unit {0}) SendStop) → SwapsPlayed true mux n v w old new mid now end → w.own.low ≡ v.own.low
+swaps_low mux n v w old new mid now end played = ap (λ (z : View). z.own.low) (swaps_did true mux n v w old new mid now end played).1.gained
+
 feeds_read : {F : Type 0} (st : Stream F) (t : TableId) (mux : Mux) (journal : List Entry) (n : ℕ) (rs : List (Reading F)) (jobs : List (FeedJob F)) → FeedsDid st (new_feeds t mux n rs) jobs
     → AllByRecursion (λ (c : Caller Entry). of c.low journal ≡ c.made) (callers_of jobs) → FeedsRead st.left journal n rs jobs
 feeds_read st t mux journal n [] [] did each = tt
@@ -150,7 +154,7 @@ pub callers_have : {F S : Type 0} (st : Streams F S) (turns : TableId) (mux : Mu
     → HasPlayedTo mux [] [] playing before before → HaveTheirCommands st mux journal cycles readers reader d.feeds d.control d.player.end d.final
 callers_have st turns mux cycles readers reader playing before now journal sent d played =
     let low = ap (λ (z : View). z.own.low) d.control_did.did.1.gained in
-    let player_low = ap (λ (z : View). z.own.low) (swaps_did true mux cycles (new_pass turns mux 1) d.player.pass playing d.played before d.mid d.player.end d.player_did).1.gained in
+    let player_low = swaps_low mux cycles (new_pass turns mux 1) d.player.pass playing d.played before d.mid d.player.end d.player_did in
     let back = feeds_back st.feeds turns mux 1 readers d.feeds d.feeds_did in
     let len = AllZip-long (FeedDid st.feeds) (new_feeds turns mux 1 readers) d.feeds d.feeds_did ∙ feeds_len turns mux 1 readers in
     record {

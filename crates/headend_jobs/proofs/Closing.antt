@@ -16,15 +16,14 @@ use Rattle.desk_core.specs.Publications.{swaps}
 use Rattle.journal_air.specs.Air.{airings_by}
 use Rattle.turn_lock.specs.declared.known.Caller.{Caller}
 use Rattle.turn_lock.specs.Knowledge.{Closes, numbers}
-use Rattle.desk_hall.specs.Turn.{View, caller_of, entry_of, Made, Idle, Knows, Did}
+use Rattle.desk_hall.specs.Turn.{View, caller_of, entry_of, with_entries, Made, Idle, Knows, Did}
 use Rattle.headend_jobs.specs.Playing.{swaps_by}
 use Rattle.headend_jobs.specs.Ticking.{Ticked}
 use Rattle.headend_jobs.proofs.Ticking.{did_join, tick_entries}
 use Rattle.headend_jobs.specs.Whole.{IsWhole, JournalDid, SwapsNot}
-use Rattle.desk_hall.proofs.Passes.{did_idle, did_more, did_none, made_knows}
+use Rattle.desk_hall.proofs.Passes.{did_idle, did_more, did_none, made_knows, more_more}
 use Rattle.journal_air.proofs.SwapFacts.{airings-append, swaps-append}
 use Rattle.headend_jobs.proofs.WholeJournal.{of, rest_is, front_whole, swaps_part, of_mine, of_other}
-use Rattle.si_lists.proofs.Lists.{all_map, all_of_map}
 
 -- ---- entries of one caller
 
@@ -41,8 +40,10 @@ none_of n k (e ∷ es) all ne = of_other k e es (λ is. ne (sym is ∙ all.0)) �
 
 -- entries with commands of one caller are its own
 pub commands_made : (n : ℕ) (commands : List Command) (es : List Entry) → map command_of es ≡ commands → AllByRecursion (λ (c : Command). c.0 ≡ n) commands → AllMade n es
-commands_made n commands es e all =
-    all_of_map (λ (c : Command). c.0 ≡ n) command_of es (subst (AllByRecursion (λ (c : Command). c.0 ≡ n)) (sym e) all)
+commands_made n commands [] e all = tt
+commands_made n [] (x ∷ es) e all = absurd (cc e)
+commands_made n (c ∷ commands) (x ∷ es) e all =
+    (let head : command_of x ≡ c = cc e in ap (λ (d : Command). d.0) head ∙ all.0, commands_made n commands es (cc e) all.1)
 
 pub swaps_own : (n k : ℕ) → AllByRecursion (λ (c : Command). c.0 ≡ n) (swaps_by n k)
 swaps_own n zero = tt
@@ -80,6 +81,13 @@ knows_by : (m w : View) → Knows m → (w ≡ m) ⊎ Knows w → Knows w
 knows_by m w k (inl same) = subst Knows (sym same) k
 knows_by m w k (inr knows) = knows
 
+nothing_of : (n : ℕ) (es : List Entry) → AllMade n es → (cs : List (Caller Entry)) → AllByRecursion (λ (c : Caller Entry). c.low ≢ n) cs → AllByRecursion (λ (c : Caller Entry). of c.low es ≡ []) cs
+nothing_of n es all [] apart = tt
+nothing_of n es all (c ∷ cs) apart = (none_of n c.low es all apart.0, nothing_of n es all cs apart.1)
+
+knows_did : (commands : List Command) (m w : View) → Knows m → Did commands m w → Knows w
+knows_did commands m w k d = knows_by m w k d.turned
+
 -- Turns of a pass: one that made an entry, and others after it.
 pub record TurnsDone (v w : View) (final : List Entry) : Type 0 where
   pub step : Step
@@ -90,6 +98,12 @@ pub record TurnsDone (v w : View) (final : List Entry) : Type 0 where
   pub did : Did commands after w
   pub own : AllMade v.own.low did.added
   pub final_is : final ≡ entry_of v.own.low step outcome ∷ did.added
+
+pub turns_gained : (v w : View) (final : List Entry) → TurnsDone v w final → w ≡ with_entries v w.seen final
+turns_gained v w final t =
+    let entry : Entry = entry_of v.own.low t.step t.outcome in
+    t.did.gained ∙ ap (λ (z : View). with_entries z w.seen t.did.added) t.made.gained ∙ more_more v t.after.seen w.seen (entry ∷ []) t.did.added
+    ∙ ap (with_entries v w.seen) (sym t.final_is)
 
 closed_turns : (mux : Mux) (v w : View) (player : Caller Entry) (feeds : List (Caller Entry)) (final journal : List Entry) (t : TurnsDone v w final) → Closes caller_of w journal → Legal mux journal
     → v.finished ≡ player ∷ feeds → player.low ≡ 1 → AllByRecursion (SwapsNot 1) (v.own ∷ player ∷ feeds) → AllByRecursion (λ (c : Caller Entry). c.low ≢ v.own.low) (player ∷ feeds)
@@ -108,7 +122,7 @@ closed_turns mux v w player feeds its journal t c legal fin one none apart =
     let made_w : w.own.made ≡ m.own.made ++ d.added = ap (λ (z : View). z.own.made) d.gained in
     let whole : IsWhole journal (w.own ∷ cs) = subst (λ (l : List (Caller Entry)). IsWhole journal (w.own ∷ l)) fin_w (closes_whole w journal c) in
     let know_m : Knows m = made_knows t.step t.outcome v m p in
-    let know_w : Knows w = knows_by m w know_m d.turned in
+    let know_w : Knows w = knows_did t.commands m w know_m d in
     let exact_m : AllByRecursion (λ (z : Caller Entry). of z.low m.seen ≡ z.made) (m.own ∷ cs) = subst (λ (l : List (Caller Entry)). AllByRecursion (λ (z : Caller Entry). of z.low m.seen ≡ z.made) (m.own ∷ l)) fin_m know_m.exact.made in
     let exact_w : AllByRecursion (λ (z : Caller Entry). of z.low w.seen ≡ z.made) (w.own ∷ cs) = subst (λ (l : List (Caller Entry)). AllByRecursion (λ (z : Caller Entry). of z.low w.seen ≡ z.made) (w.own ∷ l)) fin_w know_w.exact.made in
     let no_more : c.began.0 ≡ [] = rest_is w.own w.own cs w.seen c.began.0 [] refl (sym (append-nil w.own.made)) exact_w (subst (λ (l : List Entry). IsWhole l (w.own ∷ cs)) (sym c.began.1) whole) in
@@ -122,7 +136,7 @@ closed_turns mux v w player feeds its journal t c legal fin one none apart =
     let made_f : w.own.made ≡ v.own.made ++ final = made_w ∙ ap (λ (l : List Entry). l ++ d.added) made_m ∙ append_assoc v.own.made (entry ∷ []) d.added in
     let front : IsWhole p.before (v.own ∷ cs) =
     front_whole v.own w.own cs p.before final (low_w ∙ low_m) made_f (own_of v.own.low final (refl, of_low))
-    (all_map (λ (c : Caller Entry). c.low ≢ v.own.low) (λ (c : Caller Entry). of c.low final ≡ []) (λ c ne. none_of v.own.low c.low final (refl, of_low) ne) cs apart)
+    (nothing_of v.own.low final (refl, of_low) cs apart)
     (subst (λ (l : List Entry). IsWhole l (w.own ∷ cs)) ends whole) in
     let swaps_front : swaps p.before ≡ swaps player.made =
     swaps_part 1 mux p.before player.made (v.own ∷ cs) (legal_front mux [] p.before final (subst (Legal mux) ends legal)) front none (ap (λ (i : ℕ). of i p.before) (sym one) ∙ front.made.1.0) in

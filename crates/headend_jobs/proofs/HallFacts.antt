@@ -4,7 +4,6 @@ use Rattle.std.specs.Prelude.{Option, None, Err, Result, OnOk, Some}
 use Rattle.std.specs.List.{All, AllByRecursion}
 use Rattle.std.proofs.lemmas.Slice.Zip.{AllZip-long}
 use Rattle.std.proofs.lemmas.List.Elements.{All-from_recursion}
-use Rattle.si_lists.proofs.Outcomes.{ok_more}
 use Rattle.si_causes.specs.Reading.{Reading}
 use Rattle.mux_model.specs.Sound.{IsSound}
 use Rattle.mux_model.specs.declared.mux.Mux.{Mux}
@@ -29,9 +28,9 @@ use Rattle.headend_jobs.specs.Sends.{IsFresh, Played}
 use Rattle.headend_jobs.specs.Stops.{feeds_stop, halts}
 use Rattle.headend_jobs.specs.Views.{ViewReady, ViewsDid}
 use Rattle.headend_jobs.proofs.CallerFacts.{callers_have}
-use Rattle.headend_jobs.proofs.Joining.{feeds_len}
+use Rattle.headend_jobs.proofs.Cutting.{feeds_len}
 use Rattle.headend_jobs.proofs.Ending.{airs_are}
-use Rattle.headend_jobs.proofs.Posts.{keeps_then, opening_services, posted_all}
+use Rattle.headend_jobs.proofs.Posts.{keeps_then, ok_then, opening_services, posted_all, services_kept}
 use Rattle.headend_jobs.proofs.Running.{cause_all, control_plain, feeds_back, first_played, last_told, lone_did, nothing_played, swaps_did}
 
 new_turns : {S : Type 0} (t : TableId) (mux : Mux) (n : ℕ) (readers : List (Reading S)) → AllByRecursion (λ (job : FeedJob S). job.pass.turns ≡ t) (new_feeds t mux n readers)
@@ -103,10 +102,10 @@ module _ {F S A : Type 0} (st : Streams F S) (written : A → Option (List ℕ))
           callers = is.callers ∙ ap (λ n. n + 2) (sym readers_same);
           stands = ap (λ (z : View). z.on) read.gained ∙ ap Some (sym made.mux);
           sound = subst IsSound (sym made.mux) fresh.sound;
-          served = subst (λ m. HaveServicesOf m between.board.posts) (sym made.mux) (made.board.services ∙ opening_services mux before.board.posts fresh.opening);
+          served = subst (λ m. HaveServicesOf m between.board.posts) (sym made.mux) (services_kept mux before.board between.board made.board (opening_services mux before.board.posts fresh.opening));
           ready = made.ready;
           posted = subst (λ m. OnOk player.end (HasPostedAll m player.pass between.board)) (sym made.mux)
-              (ok_more player.end _ _ (posted_all mux (new_pass t mux 1) player.pass before.board between.board refl fresh.opening) made.posted);
+              (ok_then _ _ player.end (posted_all mux (new_pass t mux 1) player.pass before.board between.board refl fresh.opening) made.posted);
           none = is.none;
           room = let room = is.room in let same = feeds_same in omega (arith, room, same);
         }

@@ -1,7 +1,9 @@
+pub mod Airs
 pub mod WholeJournal
 pub mod Ticking
 pub mod Closing
 pub mod Ending
+pub mod Cutting
 pub mod Joining
 pub mod Running
 pub mod CallerFacts

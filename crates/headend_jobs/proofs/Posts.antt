@@ -1,6 +1,7 @@
 -- What is posted, swap by swap.
 use Rattle.std.proofs.Common.{◌≡◌, ℕ, List, [], ◌∷◌, ◌++◌, map, refl, sym, ap, ◌∙◌, subst, append-nil, append_assoc}
-use Rattle.std.specs.Prelude.{Option, Some, None}
+use Rattle.std.specs.Prelude.{Option, Some, None, Ok, Err, OnOk, Result}
+use Rattle.std.specs.List.{AllByRecursion}
 use Rattle.std.proofs.lemmas.List.{append_cancel_left}
 use Rattle.std.proofs.lemmas.List.Elements.{All-from_recursion}
 use Rattle.eit_segments.specs.Laws.{at_of}
@@ -11,19 +12,18 @@ use Rattle.guide_model.specs.declared.guide.Guide.{Guide}
 use Rattle.guide_model.specs.declared.guide.ServiceGuide.{ServiceGuide}
 use Rattle.guide_limits.specs.Limits.{IsGuideWithin, IsServiceWithin}
 use Rattle.mux_model.specs.declared.mux.Mux.{Mux}
+use Rattle.publication.specs.Tables.{HasServicesOf}
 use Rattle.journal_air.proofs.Published.{published_services}
 use Rattle.si_time.specs.declared.moment.Moment.{Moment}
-use Rattle.journal_model.specs.declared.step.Step.{Step}
-use Rattle.journal_model.specs.declared.step.Step.TheVariants.{Swap, Tick}
-use Rattle.journal_model.specs.declared.step.Outcome.{Outcome}
-use Rattle.journal_model.specs.declared.step.Outcome.TheVariants.{Swapped}
+use Rattle.journal_model.specs.declared.step.Step.TheVariants.{Publish, Swap, Tick}
+use Rattle.journal_model.specs.declared.step.Outcome.TheVariants.{Published, Swapped}
 use Rattle.journal_model.specs.declared.step.Entry.{Entry}
 use Rattle.desk_core.specs.declared.airing.Airing.{Airing}
 use Rattle.desk_core.specs.Desks.{on_air_of}
 use Rattle.desk_core.specs.Publications.{publication, swaps}
 use Rattle.desk_core.proofs.JournalFacts.{publication_stays}
 use Rattle.guide_board.specs.declared.post.Post.{Post}
-use Rattle.guide_board.specs.Posts.{IsInOrder, Sight, post, services_in, with_post}
+use Rattle.guide_board.specs.Posts.{IsInOrder, Sight, post, services_in, services_of, with_post}
 use Rattle.turn_lock.specs.declared.known.Caller.{Caller}
 use Rattle.turn_lock.specs.Journal.{entries_of}
 use Rattle.turn_lock.proofs.Lists.{prefix_self, prefix_trans}
@@ -33,27 +33,45 @@ use Rattle.headend_jobs.specs.Posting.{HasPosted, HasPostedAll, HaveServicesOf, 
 use Rattle.headend_jobs.specs.Ticking.{Ticked}
 use Rattle.headend_jobs.specs.Whole.{JournalDid}
 use Rattle.headend_jobs.proofs.Ticking.{tick_aired}
-use Rattle.headend_jobs.proofs.Swaps.{swap_number}
+use Rattle.headend_jobs.proofs.Airs.{swap_number}
 use Rattle.journal_air.proofs.SwapFacts.{swaps-append}
-use Rattle.si_lists.proofs.Lists.{all_map}
 
 -- ---- what can be posted
 
+within_order : (services : List ServiceGuide) → AllByRecursion IsServiceWithin services → AllByRecursion (λ (s : ServiceGuide). AreInOrder (map at_of s.events)) services
+within_order [] within = tt
+within_order (s ∷ services) within = (in_order s.events (within.0).events.apart, within_order services within.1)
+
 -- a guide within its limits has its events in order
 pub guide_in_order : (guide : Guide) → IsGuideWithin guide → IsInOrder guide
-guide_in_order guide within =
-    All-from_recursion (λ (s : ServiceGuide). AreInOrder (map at_of s.events)) guide.services
-    (all_map IsServiceWithin (λ (s : ServiceGuide). AreInOrder (map at_of s.events)) (λ s own. in_order s.events own.events.apart) guide.services within.services)
+guide_in_order guide within = All-from_recursion (λ (s : ServiceGuide). AreInOrder (map at_of s.events)) guide.services (within_order guide.services within.services)
+
+-- a publication of the multiplex has the services of the posts
+pub post_services : (mux : Mux) (guide : Guide) (posts : List Post) → HasServicesOf mux guide → HaveServicesOf mux posts → services_of guide ≡ services_in posts
+post_services mux guide posts has have = has ∙ sym have
 
 -- the opening post is one of the multiplex
 pub opening_services : (mux : Mux) (posts : List Post) → posts ≡ opening_of mux ∷ [] → HaveServicesOf mux posts
 opening_services mux posts is = ap services_in is ∙ published_services mux [] 0
+
+pub services_kept : (mux : Mux) (old new : Sight) → KeepsBoard old new → HaveServicesOf mux old.posts → HaveServicesOf mux new.posts
+services_kept mux old new keeps have = keeps.services ∙ have
 
 pub keeps_self : (board : Sight) → KeepsBoard board board
 keeps_self board = record { board = refl; services = refl }
 
 pub keeps_then : (a b c : Sight) → KeepsBoard a b → KeepsBoard b c → KeepsBoard a c
 keeps_then a b c first then = record { board = then.board ∙ first.board; services = then.services ∙ first.services }
+
+-- ---- what holds with Ok
+
+pub if_ok : {T E : Type 0} (X : Type 0) (r : Result T E) → X → OnOk r X
+if_ok X (Ok u) x = x
+if_ok X (Err e) x = tt
+
+pub ok_then : {T E : Type 0} (X Y : Type 0) (r : Result T E) → (X → Y) → OnOk r X → OnOk r Y
+ok_then X Y (Ok u) f x = f x
+ok_then X Y (Err e) f x = tt
 
 -- ---- posts of entries
 
@@ -95,18 +113,24 @@ posted_swap mux airing v w old new m is put = record {
       ap (λ (s : Sight). s.posts) put ∙ ap (λ (g : Guide). old.posts ++ post airing.number g ∷ []) (guide ∙ sym there);
 }
 
--- a turn that puts nothing on air posts nothing
-pub posted_made : (mux : Mux) (step : Step) (outcome : Outcome) (v w : View) (board : Sight) → Made step outcome v w → swaps (entry_of v.own.low step outcome ∷ []) ≡ [] → HasPosted mux v w board board
-posted_made mux step outcome v w board m none = record {
-  added = entry_of v.own.low step outcome ∷ [];
+-- a publish posts nothing
+pub posted_publish : (mux : Mux) (n : ℕ) (v w : View) (board : Sight) → Made Publish (Published n) v w → HasPosted mux v w board board
+posted_publish mux n v w board m = record {
+  added = entry_of v.own.low Publish (Published n) ∷ [];
   made = ap (λ (z : View). z.own.made) m.gained;
-  began = made_began step outcome v w m;
-  posts = λ journal p. sym (append-nil board.posts) ∙ ap (λ (l : List (ℕ × Moment)). board.posts ++ map (post_at mux journal) l) (sym none);
+  began = made_began Publish (Published n) v w m;
+  posts = λ journal p. sym (append-nil board.posts);
 }
 
+-- and so does a tick
 pub posted_tick : (mux : Mux) (tick : Option Moment) (v b : View) (board : Sight) → Ticked tick v b → HasPosted mux v b board board
 posted_tick mux None v b board t = posted_none mux v b board t
-posted_tick mux (Some at) v b board (outcome, m) = posted_made mux (Tick at) outcome v b board m (tick_aired at outcome v b m)
+posted_tick mux (Some at) v b board (outcome, m) = record {
+  added = entry_of v.own.low (Tick at) outcome ∷ [];
+  made = ap (λ (z : View). z.own.made) m.gained;
+  began = made_began (Tick at) outcome v b m;
+  posts = λ journal p. sym (append-nil board.posts) ∙ ap (λ (l : List (ℕ × Moment)). board.posts ++ map (post_at mux journal) l) (sym (tick_aired at outcome v b m));
+}
 
 -- ---- the posts of a whole journal
 

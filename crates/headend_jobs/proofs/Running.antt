@@ -7,8 +7,9 @@ use mathlib.Core.Logic.{dite}
 use mathlib.Core.List.{IsPrefix}
 use Rattle.si_time.specs.declared.moment.Moment.{Moment}
 use Rattle.mux_model.specs.declared.mux.Mux.{Mux}
+use Rattle.si_causes.specs.Causes.{Rose}
 use Rattle.si_causes.specs.Reading.{Reading}
-use Rattle.si_causes.proofs.CauseFacts.{Appends-nothing, Rose-from, Rose-to}
+use Rattle.si_causes.proofs.CauseFacts.{Appends-nothing}
 use Rattle.cycle_player.specs.Airs.{AreMadeAt}
 use Rattle.cycle_player.specs.Making.{tick_then}
 use Rattle.cycle_player.specs.Sending.{AtEnd, AtEndAt, Sending}
@@ -40,7 +41,6 @@ use Rattle.headend_jobs.specs.Sends.{Wrote}
 use Rattle.headend_jobs.specs.Ticking.{tick_by, tick_now, tick_of, ticks_for, turns_by}
 use Rattle.headend_jobs.specs.Whole.{NoSwaps, SwapsNot}
 use Rattle.headend_jobs.proofs.Ticking.{own_tick, ticks_len}
-use Rattle.si_lists.proofs.Lists.{all_of_map, all_through, each_unit}
 
 pub swaps_did : (ticking : Bool) (mux : Mux) (n : ℕ) (v w : View) (old new : Sending) (mid now : Option (List ℕ)) (end : Result (Unit {0}) SendStop) → SwapsPlayed ticking mux n v w old new mid now end
     → (commands : List Command) × Did commands v w
@@ -107,10 +107,13 @@ lone_did t mux who commands w d = record {
 }
 
 -- whose steps are no swaps has made none
-no_swaps : {T : Type 0} (step : T → Step) → ((value : T) → is_swap (step value) ≡ false) → (who : ℕ) (values : List T) (added : List Entry) → map command_of added ≡ commands_by who step values → NoSwaps added
-no_swaps {T = T} step none who values added e =
-    all_of_map (λ (c : Command). is_swap c.1 ≡ false) command_of added (subst (AllByRecursion (λ (c : Command). is_swap c.1 ≡ false)) (sym e)
-    (all_through (λ (v : T). Unit {0}) (λ (c : Command). is_swap c.1 ≡ false) (λ (v : T). let c : Command = (who, step v) in c) (λ v any. none v) values (each_unit values)))
+pub no_swaps : {T : Type 0} (step : T → Step) → ((value : T) → is_swap (step value) ≡ false) → (who : ℕ) (values : List T) (added : List Entry) → map command_of added ≡ commands_by who step values → NoSwaps added
+no_swaps step none who [] [] e = tt
+no_swaps step none who [] (x ∷ added) e = absurd (cc e)
+no_swaps step none who (v ∷ values) [] e = absurd (cc e)
+no_swaps step none who (v ∷ values) (x ∷ added) e =
+    let head : command_of x ≡ (who, step v) = cc e in
+    (ap (λ (c : Command). is_swap c.1) head ∙ none v, no_swaps step none who values added (cc e))
 
 edit_none : (feed : ℕ) (e : Edit) → is_swap (edit_step feed e) ≡ false
 edit_none feed e = refl
@@ -186,16 +189,25 @@ and_ok X Y Z (Ok u) (Err e) f x y = tt
 and_ok X Y Z (Err e) last f x y = tt
 
 -- a failure of the air has its cause, whether the player met it or the control
+rose_on : (a b c : ℕ) → a ≤ b → b ≤ c → Rose a b → Rose a c
+rose_on a b c le more (inl less) = inl (omega (arith, less, more))
+rose_on a b c le more (inr most) = dite (dec_le (b + 1) c) (λ h. inl (omega (arith, le, h))) (λ h. inr (let less = lt_of_not-le h in omega (arith, less, more) ∙ most))
+
+rose_from : (a b c : ℕ) → a ≤ b → Rose b c → Rose a c
+rose_from a b c le (inl less) = inl (omega (arith, le, less))
+rose_from a b c le (inr most) = inr most
+
 cause_from : (a b c : ℕ) (sent : Result (Unit {0}) SendStop) → a ≤ b → HasAirCause b c sent → HasAirCause a c sent
 cause_from a b c (Ok u) le h = tt
-cause_from a b c (Err Air) le h = Rose-from a b c le h
+cause_from a b c (Err Air) le h = rose_from a b c le h
 cause_from a b c (Err Memory) le h = tt
 
 cause_on : (a b c : ℕ) (end : Result (Unit {0}) SendStop) → a ≤ b → b ≤ c → HasAirCause a b end → HasAirCause a c end
 cause_on a b c (Ok u) le more h = tt
-cause_on a b c (Err Air) le more h = Rose-to a b c le h more
+cause_on a b c (Err Air) le more h = rose_on a b c le more h
 cause_on a b c (Err Memory) le more h = tt
 
+-- whether the player met it or the control
 pub cause_all : (a b c : ℕ) (end last : Result (Unit {0}) SendStop) → a ≤ b → b ≤ c → HasAirCause a b end → HasAirCause b c last → HasAirCause a c (and_sent end last)
 cause_all a b c (Ok u) last le more h k = cause_from a b c last le k
 cause_all a b c (Err stop) last le more h k = cause_on a b c (Err stop) le more h

@@ -1,11 +1,11 @@
--- The swaps of one pass, each after its tick and with its cycle, while other callers go on.
-use Rattle.std.proofs.Common.{◌≡◌, ◌⊎◌, inl, inr, ℕ, suc, ◌<◌, Bool, true, false, List, [], ◌∷◌, ◌++◌, length, take, refl, sym, ap, ◌∙◌, subst, arith, append-nil, append_assoc, length-append, ◌≤◌}
+-- Several swaps of one pass, each after its tick and with its cycle, while other callers go on.
+use Rattle.std.proofs.Common.{◌≡◌, ◌⊎◌, inl, inr, ℕ, suc, ◌<◌, Bool, true, false, List, [], ◌∷◌, ◌++◌, length, take, refl, sym, ap, ◌∙◌, subst, arith, append-nil, append_assoc, length-append}
 use Rattle.std.specs.Prelude.{Option, Some, None, Ok, Err}
 use mathlib.Core.List.{IsPrefix}
 use Rattle.si_time.specs.declared.moment.Moment.{Moment}
 use Rattle.mux_model.specs.declared.mux.Mux.{Mux}
-use Rattle.version_book.specs.Airings.{AiredTables, CycleForm}
-use Rattle.air_model.specs.Air.{Aired, airings_of, air_bytes}
+use Rattle.version_book.specs.Airings.{AiredTables}
+use Rattle.air_model.specs.Air.{Aired}
 use Rattle.cycle_player.specs.Making.{tick_then}
 use Rattle.cycle_player.specs.Sending.{Sending, AtEnd}
 use Rattle.cycle_player.proofs.Making.{end_tells}
@@ -14,157 +14,20 @@ use Rattle.journal_model.specs.declared.step.Outcome.{Outcome}
 use Rattle.journal_model.specs.declared.step.Outcome.TheVariants.{Swapped}
 use Rattle.journal_model.specs.declared.step.Entry.{Entry}
 use Rattle.journal_model.specs.Steps.{Command}
-use Rattle.journal_air.specs.Air.{airing_at, airings_by, mux_form}
+use Rattle.journal_air.specs.Air.{airing_at, airings_by}
 use Rattle.journal_air.specs.declared.send.SendStop.{SendStop}
 use Rattle.journal_air.specs.declared.send.SendStop.TheVariants.{Air, Memory}
-use Rattle.journal_air.proofs.SwapFacts.{airings-append, publishes-front}
+use Rattle.journal_air.proofs.SwapFacts.{airings-append}
 use Rattle.turn_lock.proofs.Lists.{prefix_trans}
-use Rattle.desk_hall.specs.Turn.{View, entry_of, Made, Idle, Did, desk_with}
+use Rattle.desk_hall.specs.Turn.{View, entry_of, Made, Idle, Did}
 use Rattle.headend_jobs.specs.Ticking.{Ticked, tick_by, tick_now, ticks_for, turns_by}
-use Rattle.headend_jobs.specs.Playing.{HasPlayedTo, HasPlayedFront, HasPlayedSome, SwapSent, SwapPlayed, SwapsPlayed, TurnsMade, AreTicks, IsNextTick, GoesOn, airing_with_tables, ArePutOnAir}
+use Rattle.headend_jobs.specs.Playing.{HasPlayedTo, HasPlayedFront, HasPlayedSome, SwapSent, SwapPlayed, SwapsPlayed, TurnsMade, AreTicks, IsNextTick, GoesOn}
 use Rattle.desk_hall.proofs.Passes.{did_none, did_more, did_idle, did_as, made_began}
-use Rattle.headend_jobs.proofs.Ticking.{take_tick, tick_airs, ticks_push, turns_push}
-use Rattle.std.specs.Io.KnownBytes.{Appends}
-use Rattle.std.proofs.KnownBytes.{Appends-trans}
-use Rattle.guide_model.specs.declared.guide.Guide.{Guide}
-use Rattle.air_model.proofs.Airs.{airings_of-push, air_bytes-push}
-use Rattle.cycle_player.specs.Airs.{cycle_at, IsAirAt}
-use Rattle.cycle_player.proofs.Airs.{made_push}
-use Rattle.cycle_player.specs.Tallies.{tally_of}
-use Rattle.cycle_player.proofs.Ends.{end_air}
-use Rattle.publication.specs.Tables.{tables_of, HasServicesOf}
-use Rattle.desk_core.specs.declared.airing.Airing.{Airing}
-use Rattle.desk_core.specs.Journal.{publishes}
-use Rattle.desk_core.specs.Publications.{aired_by, publication}
-use Rattle.desk_core.specs.Desks.{on_air_of}
-use Rattle.desk_core.proofs.JournalFacts.{publication_stays}
-use Rattle.journal_air.specs.OnAir.{IsPlayerOf, airing_by, cycle_bytes}
-use Rattle.journal_air.specs.Tallied.{HasCounted}
-use Rattle.journal_air.proofs.Tallied.{counted_more}
-use Rattle.journal_air.proofs.AirFacts.{on_air_services}
-use Rattle.desk_hall.proofs.Turns.{some_same}
-use Rattle.si_lists.proofs.Lists.{all_push}
-
--- ---- what a swap puts on air, in each journal that begins with what its pass has then seen
+use Rattle.headend_jobs.proofs.Airs.{sent_whole, sent_front, sent_none, stands_still}
+use Rattle.headend_jobs.proofs.Ticking.{none_push, take_tick, tick_airs, ticks_push, turns_push}
 
 abbrev Known : Type 0
 Known = Option (List ℕ)
-
--- the number of a swap is the number of a publication that its pass has seen
-pub swap_number : (n : ℕ) (airing : Airing) (v w : View) → (m : Made Swap (Swapped airing.number airing.moment) v w) → airing.number ≤ publishes w.seen
-swap_number n airing v w m =
-    let same : airing.number ≡ publishes m.before = ap (λ p. p.0) (some_same _ _ (ap aired_by m.outcome_is)) in
-    omega (arith, same, publishes-front m.before (entry_of v.own.low Swap (Swapped airing.number airing.moment) ∷ []), ap publishes m.seen)
-
--- what one swap puts on air
-pub puts : (mux : Mux) (airing : Airing) (v w : View) → Made Swap (Swapped airing.number airing.moment) v w → airing ≡ on_air_of (desk_with mux w.seen)
-    → ArePutOnAir mux w.seen (entry_of v.own.low Swap (Swapped airing.number airing.moment) ∷ []) (airing_with_tables mux airing ∷ [])
-puts mux airing v w m is journal (zs, e) =
-    let le = swap_number 0 airing v w m in
-    let guide : airing.guide ≡ publication mux w.seen airing.number = subst (λ (x : Airing). x.guide ≡ publication mux w.seen x.number) (sym is) refl in
-    let there : publication mux journal airing.number ≡ publication mux w.seen airing.number =
-    ap (λ (l : List Entry). publication mux l airing.number) (sym e) ∙ publication_stays mux w.seen zs airing.number le in
-    ap (λ (g : Guide). let a : AiredTables = record { tables = tables_of mux g; moment = airing.moment.0; form = mux_form mux } in a ∷ []) (guide ∙ sym there)
-
--- what is on air in longer journals too
-pub put_longer : (mux : Mux) (seen more entries : List Entry) (airings : List AiredTables) → IsPrefix seen more → ArePutOnAir mux seen entries airings → ArePutOnAir mux more entries airings
-put_longer mux seen more entries airings p are journal q = are journal (prefix_trans seen more journal p q)
-
--- and of more entries
-pub put_more : (mux : Mux) (seen front then : List Entry) (xs ys : List AiredTables) → ArePutOnAir mux seen front xs → ArePutOnAir mux seen then ys → ArePutOnAir mux seen (front ++ then) (xs ++ ys)
-put_more mux seen front then xs ys a b journal p =
-    ap (λ (l : List AiredTables). l ++ ys) (a journal p) ∙ ap (λ (l : List AiredTables). airings_by mux journal front ++ l) (b journal p)
-    ∙ sym (airings-append mux journal front then)
-
--- the airings of the cycles with one more, whose entry was just made
-one_more : (mux : Mux) (airing : Airing) (v w : View) (front : List Entry) (xs : List Aired) (x : Aired) → Made Swap (Swapped airing.number airing.moment) v w → airing ≡ on_air_of (desk_with mux w.seen)
-    → ArePutOnAir mux v.seen front (airings_of xs) → x.airing ≡ airing_with_tables mux airing
-    → ArePutOnAir mux w.seen (front ++ entry_of v.own.low Swap (Swapped airing.number airing.moment) ∷ []) (airings_of (xs ++ x ∷ []))
-one_more mux airing v w front xs x m is are e =
-    let entry : Entry = entry_of v.own.low Swap (Swapped airing.number airing.moment) in
-    subst (λ (l : List AiredTables). ArePutOnAir mux w.seen (front ++ entry ∷ []) l)
-    (ap (λ (a : AiredTables). airings_of xs ++ a ∷ []) (sym e) ∙ sym (airings_of-push xs x))
-    (put_more mux w.seen front (entry ∷ []) (airings_of xs) (airing_with_tables mux airing ∷ [])
-    (put_longer mux v.seen w.seen front (airings_of xs) (made_began Swap (Swapped airing.number airing.moment) v w m) are)
-    (puts mux airing v w m is))
-
--- the airing of a player with the multiplex's form
-own_form : (mux : Mux) (airing : Airing) (player : Sending) → player.form ≡ mux_form mux → airing_by mux player.form airing ≡ airing_with_tables mux airing
-own_form mux airing player form = ap (λ (f : CycleForm). airing_by mux f airing) form
-
--- the packets of a cycle, at the multiplex's rate
-own_cycle : (rate : Option ℕ) (player : Sending) (xs : List Aired) (x : Aired) (a : AiredTables)
-    → player.rate ≡ rate → x.airing ≡ a → x.packets ≡ cycle_at player.rate xs a
-    → x.packets ≡ cycle_at rate xs x.airing
-own_cycle rate player xs x a same e packets =
-    packets ∙ ap (λ (r : Option ℕ). cycle_at r xs a) same ∙ ap (cycle_at rate xs) (sym e)
-
--- what a player of the multiplex has sent is an air at the multiplex's rate
-pub own_air : (mux : Mux) (player : Sending) (xs : List Aired) → IsPlayerOf mux player
-    → AtEnd xs player → IsAirAt mux.rate (airings_of xs) xs
-own_air mux player xs is end =
-    subst (λ (r : Option ℕ). IsAirAt r (airings_of xs) xs) is.rate (end_air xs player end)
-
--- the tally with one more cycle, which was begun
-one_counted : (mux : Mux) (airing : Airing) (old new : Sending) (xs : List Aired) (x : Aired) → x.airing ≡ airing_by mux old.form airing → IsPlayerOf mux old
-    → old.tally ≡ tally_of mux.rate (airings_of xs) → HasCounted (airing_by mux old.form airing) old new → new.tally ≡ tally_of mux.rate (airings_of (xs ++ x ∷ []))
-one_counted mux airing old new xs x e is has counted =
-    counted_more mux.rate (airings_of xs) (airings_of (xs ++ x ∷ [])) (airing_by mux old.form airing) old new
-    (airings_of-push xs x ∙ ap (λ (a : AiredTables). airings_of xs ++ a ∷ []) e) is.rate has counted
-
--- a whole cycle was sent
-pub sent_whole : (tick : Option Moment) (mux : Mux) (v w : View) (old new : Sending) (mid now : Known) (u : Unit {0}) → (s : SwapSent tick mux v w old new mid now (Ok u))
-    → GoesOn (λ entries before. HasPlayedTo mux w.seen entries new before now) mux s.between (entry_of s.between.own.low Swap (Swapped s.airing.number s.airing.moment) ∷ []) old mid
-sent_whole tick mux v w old new mid now u s = λ front before h.
-    let xs = h.cycles in
-    let (x, e, packets, ended, took) = s.sent xs h.at_end in
-    let rate : new.rate ≡ mux.rate = s.rate ∙ h.player_of.rate in
-    record {
-      cycles = xs ++ x ∷ [];
-      at_end = ended;
-      airings_are = one_more mux s.airing s.between w front xs x s.made s.airing_is h.airings_are (e ∙ own_form mux s.airing old h.player_of.form);
-      made = made_push mux.rate [] xs x h.made (own_cycle mux.rate new xs x _ rate e packets);
-      player_of = record { form = s.form ∙ h.player_of.form; rate = rate };
-      tally = one_counted mux s.airing old new xs x e h.player_of h.tally s.counted;
-      bytes = subst (Appends before now) (sym (air_bytes-push xs x)) (Appends-trans before mid now (air_bytes xs) (cycle_bytes x) h.bytes took);
-    }
-
--- a cycle was sent in part
-pub sent_front : (tick : Option Moment) (mux : Mux) (v w : View) (old new : Sending) (mid now : Known) → (s : SwapSent tick mux v w old new mid now (Err Air))
-    → GoesOn (λ entries before. HasPlayedFront mux w.seen entries new before now) mux s.between (entry_of s.between.own.low Swap (Swapped s.airing.number s.airing.moment) ∷ []) old mid
-sent_front tick mux v w old new mid now s = λ front before h.
-    let xs = h.cycles in
-    let (x, e, packets, is_air, (n, proper, took)) = s.sent xs h.at_end in
-    let rate : new.rate ≡ mux.rate = s.rate ∙ h.player_of.rate in
-    record {
-      whole = xs;
-      cut = x;
-      is_air = subst (λ (r : Option ℕ). IsAirAt r (airings_of (xs ++ x ∷ [])) (xs ++ x ∷ [])) rate is_air;
-      airings_are = one_more mux s.airing s.between w front xs x s.made s.airing_is h.airings_are (e ∙ own_form mux s.airing old h.player_of.form);
-      made = made_push mux.rate [] xs x h.made (own_cycle mux.rate new xs x _ rate e packets);
-      tally = one_counted mux s.airing old new xs x e h.player_of h.tally s.counted;
-      taken = n;
-      proper = proper;
-      bytes = Appends-trans before mid now (air_bytes xs) (take n (cycle_bytes x)) h.bytes took;
-    }
-
--- no cycle was sent
-pub sent_none : (mux : Mux) (v w : View) (old : Sending) (mid now : Known) (added : List Entry) → IsPrefix v.seen w.seen → now ≡ mid
-    → GoesOn (λ entries before. HasPlayedSome mux w.seen entries before now) mux v added old mid
-sent_none mux v w old mid now added p same = λ front before h. record {
-  done = front;
-  left = added;
-  entries_are = refl;
-  whole = h.cycles;
-  is_air = own_air mux old h.cycles h.player_of h.at_end;
-  airings_are = put_longer mux v.seen w.seen front (airings_of h.cycles) p h.airings_are;
-  made = h.made;
-  bytes = subst (λ (k : Known). Appends before k (air_bytes h.cycles)) (sym same) h.bytes;
-}
-
--- what the airing of a swap needs for its cycle
-pub airing_services : (mux : Mux) (airing : Airing) (w : View) → airing ≡ on_air_of (desk_with mux w.seen) → HasServicesOf mux airing.guide
-airing_services mux airing w is = on_air_services (desk_with mux w.seen) mux airing refl is
 
 -- what goes on after what went on
 then_on : (has : List Entry → Known → Type 0) (mux : Mux) (v m : View) (first then : List Entry) (old p : Sending) (mid t : Known)
@@ -204,7 +67,7 @@ module _ (mux : Mux) (v : View) (old : Sending) (mid : Known) where
   ticks_more : (ticking : Bool) (seen more added : List Entry) (ticks : List (Option Moment)) (tick : Option Moment) (who n : ℕ) (at : Moment) → IsPrefix seen more
       → AreTicks ticking mux v seen added old mid ticks → IsNextTick ticking mux v seen added old mid tick
       → AreTicks ticking mux v more (added ++ entry_of who Swap (Swapped n at) ∷ []) old mid (ticks ++ tick ∷ [])
-  ticks_more false seen more added ticks tick who n at p are is = all_push (λ (t : Option Moment). t ≡ None) ticks tick are is
+  ticks_more false seen more added ticks tick who n at p are is = none_push ticks tick are is
   ticks_more true seen more added ticks tick who n at p are is = λ front before played journal q.
       let there = prefix_trans seen more journal p q in
       let entry : Entry = entry_of who Swap (Swapped n at) in
@@ -221,6 +84,8 @@ module _ (mux : Mux) (v : View) (old : Sending) (mid : Known) where
 pub record PlayedSo (ticking : Bool) (mux : Mux) (n : ℕ) (v w : View) (old new : Sending) (mid now : Known) : Type 0 where
   pub made : TurnsMade ticking mux n v w old mid
   pub on_air : GoesOn (λ entries before. HasPlayedTo mux w.seen entries new before now) mux v made.did.added old mid
+  pub stands : w.on ≡ Some mux
+  pub turns : w.turns ≡ v.turns
   pub ready : (xs : List Aired) × AtEnd xs new
 
 -- and this tick after them
@@ -231,11 +96,15 @@ record TickedSo (ticking : Bool) (mux : Mux) (n : ℕ) (tick : Option Moment) (v
   ticks_are : AreTicks ticking mux v w.seen did.added old mid ticks
   tick_is : IsNextTick ticking mux v w.seen did.added old mid tick
   on_air : GoesOn (λ entries before. HasPlayedTo mux w.seen entries new before now) mux v did.added old mid
+  stands : w.on ≡ Some mux
+  turns : w.turns ≡ v.turns
 
-pub so_none : (ticking : Bool) (mux : Mux) (v : View) (player : Sending) (written : Known) → (xs : List Aired) × AtEnd xs player → PlayedSo ticking mux 0 v v player player written written
-so_none ticking mux v player written ready = record {
+pub so_none : (ticking : Bool) (mux : Mux) (v : View) (player : Sending) (written : Known) → v.on ≡ Some mux → (xs : List Aired) × AtEnd xs player → PlayedSo ticking mux 0 v v player player written written
+so_none ticking mux v player written on ready = record {
   made = record { ticks = []; count = refl; did = did_none v; ticks_are = ticks_none mux v player written ticking };
   on_air = λ front before has. subst (λ (l : List Entry). HasPlayedTo mux v.seen l player before written) (sym (append-nil front)) has;
+  stands = on;
+  turns = refl;
   ready = ready;
 }
 
@@ -266,6 +135,8 @@ tick_so ticking mux n None v m b old p mid t is g same =
       ticks_are = g.made.ticks_are;
       tick_is = subst (λ (o : Option Moment). IsNextTick ticking mux v m.seen g.made.did.added old mid o) (sym is) (next_tick mux v old mid ticking m g.made.did.added p t g.on_air);
       on_air = g.on_air;
+      stands = g.stands;
+      turns = g.turns;
     })
 tick_so ticking mux n (Some at) v m b old p mid t is g (outcome, made) =
     let entry : Entry = entry_of m.own.low (Tick at) outcome in
@@ -280,6 +151,8 @@ tick_so ticking mux n (Some at) v m b old p mid t is g (outcome, made) =
       tick_is = other_tick mux v old mid ticking m.seen b.seen g.made.did.added (g.made.did.added ++ entry ∷ []) (Some at) p' airs
           (subst (λ (o : Option Moment). IsNextTick ticking mux v m.seen g.made.did.added old mid o) (sym is) (next_tick mux v old mid ticking m g.made.did.added p t g.on_air));
       on_air = then_on (λ entries before. HasPlayedTo mux b.seen entries p before t) mux v m g.made.did.added (entry ∷ []) old p mid t g.on_air (ticked_on mux at outcome m b p t made);
+      stands = ap (λ (z : View). z.on) made.gained ∙ g.stands;
+      turns = ap (λ (z : View). z.turns) made.gained ∙ g.turns;
     }
 
 -- one swap more, which the pass made after others and its tick
@@ -301,6 +174,8 @@ so_sent ticking mux n v m w old p new mid t now u g s =
     record {
       made = swap_did ticking mux n tick s.airing.number s.airing.moment v b w old p mid t a s.made;
       on_air = then_on (λ entries before. HasPlayedTo mux w.seen entries new before now) mux v b a.did.added (entry_of b.own.low Swap (Swapped s.airing.number s.airing.moment) ∷ []) old p mid t a.on_air (sent_whole tick mux m w p new t now u s);
+      stands = stands_still mux Swap (Swapped s.airing.number s.airing.moment) b w a.stands s.made;
+      turns = ap (λ (z : View). z.turns) s.made.gained ∙ a.turns;
       ready = (let r = g.ready in let h = s.sent r.0 r.1 in (r.0 ++ h.0 ∷ [], h.3));
     }
 

@@ -26,7 +26,6 @@ use Rattle.journal_air.proofs.SwapFacts.{airings-append}
 use Rattle.headend_jobs.specs.Playing.{swaps_by}
 use Rattle.headend_jobs.specs.Ticking.{Ticked, tick_by, tick_of, ticks_for, ticks_of, turns_by}
 use Rattle.headend_jobs.proofs.WholeJournal.{swaps_none}
-use Rattle.si_lists.proofs.Lists.{all_append, all_through, each_unit}
 
 -- ---- commands
 
@@ -43,6 +42,10 @@ pub turns_plain : (who : ℕ) (ticks : List (Option Moment)) → AllByRecursion 
 turns_plain who [] none = refl
 turns_plain who (t ∷ ticks) none =
     ap (λ (o : Option Moment). tick_by who o ++ (who, Swap) ∷ turns_by who ticks) none.0 ∙ ap (λ (l : List Command). (who, Swap) ∷ l) (turns_plain who ticks none.1)
+
+pub none_push : (ticks : List (Option Moment)) (tick : Option Moment) → AllByRecursion (λ (t : Option Moment). t ≡ None) ticks → tick ≡ None → AllByRecursion (λ (t : Option Moment). t ≡ None) (ticks ++ tick ∷ [])
+none_push [] tick all is = (is, tt)
+none_push (t ∷ ticks) tick all is = (all.0, none_push ticks tick all.1 is)
 
 pub take_tick : (who : ℕ) (tick : Option Moment) → take 1 (tick_by who tick) ≡ tick_by who tick
 take_tick who None = refl
@@ -91,11 +94,15 @@ module _ (mux : Mux) (journal made final : List Entry) (are : airings mux journa
       ∙ ap (tick_of mux journal) len
 
 -- 16 bits of days say them
-pub tick_is_within : (mux : Mux) (journal : List Entry) (n : ℕ) → IsToldTick (tick_of mux journal n)
-tick_is_within mux journal n = then_within mux.rate (take n (airings mux journal))
+told_ticks : (mux : Mux) (journal : List Entry) (ns : List ℕ) → AllByRecursion IsToldTick (map (tick_of mux journal) ns)
+told_ticks mux journal [] = tt
+told_ticks mux journal (n ∷ ns) = (then_within mux.rate (take n (airings mux journal)), told_ticks mux journal ns)
 
 pub ticks_within : (mux : Mux) (journal : List Entry) (n : ℕ) → AllByRecursion IsToldTick (ticks_of mux journal n)
-ticks_within mux journal n = all_through (λ (k : ℕ). Unit {0}) IsToldTick (tick_of mux journal) (λ k any. tick_is_within mux journal k) (numbers_from 0 n) (each_unit (numbers_from 0 n))
+ticks_within mux journal n = told_ticks mux journal (numbers_from 0 n)
+
+pub tick_is_within : (mux : Mux) (journal : List Entry) (n : ℕ) → IsToldTick (tick_of mux journal n)
+tick_is_within mux journal n = then_within mux.rate (take n (airings mux journal))
 
 -- what holds of all commands of ticks and swaps
 module _ (P : Command → Type 0) (who : ℕ) (ticked : (at : Moment) → IsToldTick (Some at) → P (who, Tick at)) (swapped : P (who, Swap)) where
@@ -103,9 +110,13 @@ module _ (P : Command → Type 0) (who : ℕ) (ticked : (at : Moment) → IsTold
   tick_has None within = tt
   tick_has (Some at) within = (ticked at within, tt)
 
+  swap_has : (tick : Option Moment) (rest : List Command) → IsToldTick tick → AllByRecursion P rest → AllByRecursion P (tick_by who tick ++ (who, Swap) ∷ rest)
+  swap_has None rest within all = (swapped, all)
+  swap_has (Some at) rest within all = (ticked at within, (swapped, all))
+
   pub turns_have : (ticks : List (Option Moment)) → AllByRecursion IsToldTick ticks → AllByRecursion P (turns_by who ticks)
   turns_have [] within = tt
-  turns_have (t ∷ ticks) within = all_append P (tick_by who t) ((who, Swap) ∷ turns_by who ticks) (tick_has t within.0) (swapped, turns_have ticks within.1)
+  turns_have (t ∷ ticks) within = swap_has t (turns_by who ticks) within.0 (turns_have ticks within.1)
 
 -- ---- the turn of a tick
 

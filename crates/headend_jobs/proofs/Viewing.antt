@@ -1,6 +1,5 @@
 -- The answers to a viewer, one more at a time.
-use Rattle.std.proofs.Common.{◌≡◌, ℕ, zero, suc, ◌≤◌, List, [], ◌∷◌, ◌++◌, length, Some, slice_get, refl, ap, sym, subst, arith, length-append, Ok}
-use Rattle.std.proofs.lemmas.Option.{slice_get_within}
+use Rattle.std.proofs.Common.{◌≡◌, ℕ, zero, suc, ◌<◌, ◌≤◌, List, [], ◌∷◌, ◌++◌, length, Some, slice_get, refl, ap, sym, subst, arith, length-append, Ok}
 use mathlib.Core.List.{IsPrefix}
 use Rattle.guide_board.specs.declared.post.Post.{Post}
 use Rattle.guide_board.specs.declared.lines.NowNext.{NowNext}
@@ -13,6 +12,11 @@ prefix_get [] ys k x p h = absurd cc
 prefix_get (y ∷ xs) [] k x p h = absurd (cc (p.1))
 prefix_get (y ∷ xs) (z ∷ ys) zero x p h = cc (p.1, h)
 prefix_get (y ∷ xs) (z ∷ ys) (suc k) x p h = prefix_get xs ys k x (p.0, cc (p.1)) h
+
+get_within : {X : Type 0} (xs : List X) (k : ℕ) (x : X) → slice_get xs k ≡ Some x → k < length xs
+get_within [] k x h = absurd cc
+get_within (y ∷ xs) zero x h = omega arith
+get_within (y ∷ xs) (suc k) x h = let l = get_within xs k x h in omega arith
 
 get_end : {X : Type 0} (xs : List X) (x : X) → slice_get (xs ++ x ∷ []) (length xs) ≡ Some x
 get_end [] x = refl
@@ -27,7 +31,7 @@ said_end : (service from m : ℕ) (posts : List Post) (answers : List NowNext) (
     → AreSaidFrom posts service from (answers ++ answer ∷ [])
 said_end service from m posts [] answer size le said is = (m, le, is, tt)
 said_end service from m posts (first ∷ others) answer size le (k, low, (p, at, says), rest) is =
-    let within = slice_get_within posts k p at in
+    let within = get_within posts k p at in
     let below : k ≤ m = omega (arith, within, size) in
     (k, low, (p, at, says), said_end service k m posts others answer size below rest is)
 

@@ -6,8 +6,6 @@ use Rattle.std.proofs.lemmas.List.{append_cancel_left, append_cancel_right}
 use Rattle.std.proofs.lemmas.List.Elements.{filter-append}
 use native.Mathlib.Decide.{ℕ_discrete}
 use mathlib.Core.Logic.{dite}
-use Rattle.si_lists.proofs.Lists.{all_two}
-use Rattle.input_lines.proofs.LastLines.{nothing_front}
 use Rattle.mux_model.specs.declared.mux.Mux.{Mux}
 use Rattle.si_time.specs.declared.moment.Moment.{Moment}
 use Rattle.journal_model.specs.declared.step.Step.{Step}
@@ -36,6 +34,10 @@ of_mine k e es is = ap (λ (b : Bool). if b then e ∷ of k es else of k es) (eq
 pub of_other : (k : ℕ) (e : Entry) (es : List Entry) → e.who ≢ k → of k (e ∷ es) ≡ of k es
 of_other k e es ne = ap (λ (b : Bool). if b then e ∷ of k es else of k es) (ne_eqb e.who k ne)
 
+empty_left : (xs ys : List Entry) → xs ++ ys ≡ [] → xs ≡ []
+empty_left [] ys e = refl
+empty_left (x ∷ xs) ys e = absurd (cc e)
+
 empty_right : (xs ys : List Entry) → xs ++ ys ≡ [] → ys ≡ []
 empty_right [] ys e = e
 empty_right (x ∷ xs) ys e = absurd (cc e)
@@ -58,6 +60,10 @@ find P (c ∷ cs) k all = dite (ℕ_discrete k c.low)
     (λ is. inl (subst P (sym is) all.0))
     (λ ne. ⊎_elim (λ h. inl h) (λ h. inr (ne, h)) (find P cs k all.1))
 
+both : (P Q R : Caller Entry → Type 0) → ((c : Caller Entry) → P c → Q c → R c) → (cs : List (Caller Entry)) → AllByRecursion P cs → AllByRecursion Q cs → AllByRecursion R cs
+both P Q R f [] p q = tt
+both P Q R f (c ∷ cs) p q = (f c p.0 q.0, both P Q R f cs p.1 q.1)
+
 -- What stands behind a part of a whole journal, where the pass alone has made more since then.
 pub rest_is : (own own' : Caller Entry) (fin : List (Caller Entry)) (xs ys added : List Entry) → own'.low ≡ own.low → own'.made ≡ own.made ++ added
     → AllByRecursion (λ (c : Caller Entry). of c.low xs ≡ c.made) (own ∷ fin) → IsWhole (xs ++ ys) (own' ∷ fin) → ys ≡ added
@@ -66,7 +72,7 @@ rest_is own own' fin xs ys added low made before whole =
     append_cancel_left own.made (of own.low ys) added
     (ap (λ (l : List Entry). l ++ of own.low ys) (sym before.0) ∙ sym (of_append own.low xs ys) ∙ ap (λ (k : ℕ). of k (xs ++ ys)) (sym low) ∙ whole.made.0 ∙ made) in
     let each : AllByRecursion (λ (c : Caller Entry). of c.low ys ≡ []) fin =
-    all_two (λ c. of c.low xs ≡ c.made) (λ c. of c.low (xs ++ ys) ≡ c.made) (λ c. of c.low ys ≡ []) (λ c a b. none_behind c.low xs ys c.made a b) fin before.1 whole.made.1 in
+    both (λ c. of c.low xs ≡ c.made) (λ c. of c.low (xs ++ ys) ≡ c.made) (λ c. of c.low ys ≡ []) (λ c a b. none_behind c.low xs ys c.made a b) fin before.1 whole.made.1 in
     only own.low ys (λ k ne. ⊎_elim (λ h. h)
     (λ (h : NotLowest fin k). empty_right (of k xs) (of k ys) (sym (of_append k xs ys) ∙ whole.others k (subst (λ (n : ℕ). k ≢ n) (sym low) ne, h)))
     (find (λ k. of k ys ≡ []) fin k each))
@@ -79,10 +85,10 @@ front_whole own own' fin xs ys low made mine none whole = record {
   made = (
     append_cancel_right (of own.low xs) own.made ys
         (ap (λ (l : List Entry). of own.low xs ++ l) (sym mine) ∙ sym (of_append own.low xs ys) ∙ ap (λ (k : ℕ). of k (xs ++ ys)) (sym low) ∙ whole.made.0 ∙ made),
-    all_two (λ c. of c.low ys ≡ []) (λ c. of c.low (xs ++ ys) ≡ c.made) (λ c. of c.low xs ≡ c.made)
+    both (λ c. of c.low ys ≡ []) (λ c. of c.low (xs ++ ys) ≡ c.made) (λ c. of c.low xs ≡ c.made)
         (λ c a b. sym (append-nil (of c.low xs)) ∙ ap (λ (l : List Entry). of c.low xs ++ l) (sym a) ∙ sym (of_append c.low xs ys) ∙ b) fin none whole.made.1,
   );
-  others = λ k h. nothing_front (of k xs) (of k ys) (sym (of_append k xs ys) ∙ whole.others k (subst (λ (n : ℕ). k ≢ n) (sym low) h.0, h.1));
+  others = λ k h. empty_left (of k xs) (of k ys) (sym (of_append k xs ys) ∙ whole.others k (subst (λ (n : ℕ). k ≢ n) (sym low) h.0, h.1));
 }
 
 -- ---- which entries are swaps
@@ -111,7 +117,7 @@ swaps_of_one n journal cs whole none =
     of_all (IsNone n) journal (λ k. all_none n k (of k journal) (λ ne. ⊎_elim (λ h. h ne)
     (λ h. subst NoSwaps (sym (whole.others k h)) tt)
     (find (λ k. k ≢ n → NoSwaps (of k journal)) cs k
-    (all_two (SwapsNot n) (λ c. of c.low journal ≡ c.made) (λ c. c.low ≢ n → NoSwaps (of c.low journal)) (λ c s e ne. subst NoSwaps (sym e) (s ne)) cs none whole.made))))
+    (both (SwapsNot n) (λ c. of c.low journal ≡ c.made) (λ c. c.low ≢ n → NoSwaps (of c.low journal)) (λ c s e ne. subst NoSwaps (sym e) (s ne)) cs none whole.made))))
 
 -- ---- swaps
 

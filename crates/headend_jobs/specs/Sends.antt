@@ -7,7 +7,7 @@ use Rattle.cycle_player.specs.Tally.{no_cycles}
 use Rattle.turn_lock.specs.Knowledge.{TableId}
 use Rattle.journal_air.specs.declared.send.SendStop.{SendStop}
 use Rattle.journal_air.specs.OnAir.{HasAirCause, IsPlayerOf}
-use Rattle.desk_hall.specs.Turn.{KeepsNumbers, View}
+use Rattle.desk_hall.specs.Turn.{View}
 use Rattle.headend_jobs.specs.declared.sender.Sender.{Sender}
 use Rattle.headend_jobs.specs.declared.sender.Swaps.{Swaps}
 use Rattle.headend_jobs.specs.Playing.{SwapsPlayed}
@@ -41,7 +41,6 @@ pub record Played {A : Type 0} (written : A → Option (List ℕ)) (faults : A �
     (is_same : A → A → Type 0) (swaps : Swaps) (v w : View) (old new : Sender A)
     (result : Result (Unit {0}) SendStop) : Type 0 where
   pub mux : new.mux ≡ old.mux
-  pub keeps : KeepsNumbers v w
   pub played : SwapsPlayed swaps.ticking old.mux swaps.count v w old.player new.player
       (written old.air) (written new.air) result
   pub ready : OnOk result ((xs : List Aired) × AtEnd xs new.player)

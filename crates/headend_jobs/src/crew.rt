@@ -60,6 +60,19 @@ fn cut_all<F: Source>(
     Ok(jobs)
 }
 
+// Puts a reader into a list that has room for it.
+fn put_back<F: Source>(back: &mut Vec<LineReader<F>>, lines: LineReader<F>)
+    requires { vec_len back.old < vec_capacity back.old }
+    ensures items { back.new.items ≡ back.old.items ++ lines ∷ [] }
+    ensures len { vec_len back.new ≡ vec_len back.old + 1 }
+    ensures capacity { vec_capacity back.old ≤ vec_capacity back.new }
+{
+    match back.push(lines) {
+        Ok(()) => {}
+        Err(_) => unreachable!(),
+    }
+}
+
 fn feed_stop(feed: u8, stop: Option<EditStop>) -> Option<LiveStop>
     ensures { result ≡ feed_stop feed stop }
 {
@@ -94,7 +107,7 @@ fn join_all<F: Source>(
             stop,
         } = job;
         pass.join(turns, other);
-        back.push_reserved(lines);
+        put_back(back, lines);
         first = and_stop(first, feed_stop(feed, stop));
     }
     first

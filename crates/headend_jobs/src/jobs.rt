@@ -135,20 +135,23 @@ fn run_readers<W: Threads + Wait + Sync, F: Source + Send, S: Source + Send, G: 
     );
 }
 
-// The control, the feeds and the viewers side by side.
-fn run_others<W: Threads + Wait + Sync, F: Source + Send, S: Source + Send, G: Gate>(
+// The control and the feeds, and the viewers.
+fn run_each<W: Threads + Wait + Sync, F: Source + Send, S: Source + Send, G: Gate>(
     rt: &W,
     alloc: Global,
     hall: &Hall,
-    others: &mut Others<F, S>,
+    control: &mut ControlJob<S>,
+    feeds: &mut [FeedJob<F>],
+    views: &mut [ViewJob],
     gate: &G,
 )
-    requires { OthersReady hall.now.turns others.old }
-    ensures { OthersDid (streams F.left F.faults F.same S.left S.faults S.same) others.old others.new }
+    requires feeds { AllOf hall.now.turns feeds.old }
+    requires control { control.old.pass.turns ≡ hall.now.turns }
+    requires views { All ViewReady views.old }
+    ensures feeds { FeedsDid (stream F.left F.faults F.same) feeds.old feeds.new }
+    ensures control { ControlDid (stream S.left S.faults S.same) control.old control.new }
+    ensures views { ViewsDid views.old views.new }
 {
-    let control = &mut others.control;
-    let feeds = others.feeds.as_mut_slice();
-    let views = others.views.as_mut_slice();
     join_mut(
         rt,
         &mut ||
@@ -161,6 +164,44 @@ fn run_others<W: Threads + Wait + Sync, F: Source + Send, S: Source + Send, G: G
             requires { All ViewReady views.now }
             ensures { ViewsDid views.entry.now views.exit.now }
         { run_views(rt, views) },
+    );
+}
+
+// The player, and each of the others, side by side.
+fn run_both<W: Threads + Wait + Sync, F: Source + Send, S: Source + Send, A: Sink + Send, G: Gate>(
+    rt: &W,
+    alloc: Global,
+    hall: &Hall,
+    player: &mut PlayerJob,
+    sender: &mut Sender<A>,
+    control: &mut ControlJob<S>,
+    feeds: &mut [FeedJob<F>],
+    views: &mut [ViewJob],
+    gate: &G,
+)
+    requires player { PlayerReady hall.now.turns player.old sender.old }
+    requires feeds { AllOf hall.now.turns feeds.old }
+    requires control { control.old.pass.turns ≡ hall.now.turns }
+    requires views { All ViewReady views.old }
+    ensures player { PlayerDid A.written A.faults A.same player.old player.new sender.old sender.new }
+    ensures feeds { FeedsDid (stream F.left F.faults F.same) feeds.old feeds.new }
+    ensures control { ControlDid (stream S.left S.faults S.same) control.old control.new }
+    ensures views { ViewsDid views.old views.new }
+{
+    join_mut(
+        rt,
+        &mut ||
+            requires { IsSend F.row × IsSend S.row × IsSync W.row × IsSync G.row
+                × AllOf hall.now.turns feeds.now × (control.now.pass.turns ≡ hall.now.turns)
+                × All ViewReady views.now }
+            ensures feeds { FeedsDid (stream F.left F.faults F.same) feeds.entry.now feeds.exit.now }
+            ensures control { ControlDid (stream S.left S.faults S.same) control.entry.now control.exit.now }
+            ensures views { ViewsDid views.entry.now views.exit.now }
+        { run_each(rt, alloc, hall, control, feeds, views, gate) },
+        &mut ||
+            requires { PlayerReady hall.now.turns player.now sender.now }
+            ensures { PlayerDid A.written A.faults A.same player.entry.now player.exit.now sender.entry.now sender.exit.now }
+        { run_player(rt, alloc, hall, player, sender, gate) },
     );
 }
 
@@ -185,18 +226,15 @@ pub(crate) fn run_side_by_side<
     ensures player { PlayerDid A.written A.faults A.same player.old player.new sender.old sender.new }
     ensures others { OthersDid (streams F.left F.faults F.same S.left S.faults S.same) others.old others.new }
 {
-    join_mut(
+    run_both(
         rt,
-        &mut ||
-            requires { IsSend F.row × IsSend S.row × IsSync W.row × IsSync G.row
-                × OthersReady hall.now.turns others.now }
-            ensures { OthersDid (streams F.left F.faults F.same S.left S.faults S.same)
-                others.entry.now others.exit.now }
-        { run_others(rt, alloc, hall, others, gate) },
-        &mut ||
-            requires { PlayerReady hall.now.turns player.now sender.now }
-            ensures { PlayerDid A.written A.faults A.same player.entry.now player.exit.now
-                sender.entry.now sender.exit.now }
-        { run_player(rt, alloc, hall, player, sender, gate) },
+        alloc,
+        hall,
+        player,
+        sender,
+        &mut others.control,
+        others.feeds.as_mut_slice(),
+        others.views.as_mut_slice(),
+        gate,
     );
 }

@@ -87,9 +87,8 @@ pub fn run_hall<
     requires few { length inputs.feeds.items ≤ 16 }
     requires cycles { cycles ≤ 1000 }
     requires views { All ViewReady views.items }
-    ensures ran { IfOk result (HallRan (streams F.left F.faults F.same S.left S.faults S.same)
-        sender.old.mux cycles inputs.feeds.items inputs.control
-        (taken A.written A.faults sender.old.air sender.new.air)) }
+    ensures ran { IfOk result (HallRan (streams F.left F.faults F.same S.left S.faults S.same) sender.old.mux cycles
+        inputs.feeds.items inputs.control (taken A.written A.faults sender.old.air sender.new.air)) }
     ensures board { IfOk result (BoardRan sender.old.mux views.items sender.old.board sender.new.board) }
     ensures same { OnOk result (A.same sender.old.air sender.new.air) }
     ensures memory { OnErr result (sender.new ≡ sender.old) }

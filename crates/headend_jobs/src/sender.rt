@@ -94,11 +94,9 @@ impl<A: Sink> Sender<A> {
     ) -> Result<(), SendStop>
         requires { CanPlay hall.now.turns pass.old self.old }
         ensures mux { self.new.mux ≡ self.old.mux }
-        ensures keeps { KeepsNumbers pass.old pass.new }
         ensures played { SwapPlayed (tick_now ticking self.old.player) self.old.mux pass.old pass.new
             self.old.player self.new.player (A.written self.old.air) (A.written self.new.air) result }
-        ensures posted { OnOk result
-            (HasPosted self.old.mux pass.old pass.new self.old.board self.new.board) }
+        ensures posted { OnOk result (HasPosted self.old.mux pass.old pass.new self.old.board self.new.board) }
         ensures board { KeepsBoard self.old.board self.new.board }
         ensures air { Wrote A.faults A.same self.old.air self.new.air result }
     {
@@ -147,11 +145,9 @@ impl<A: Sink> Sender<A> {
     ) -> Result<(), SendStop>
         requires { CanPlay hall.now.turns pass.old self.old }
         ensures mux { self.new.mux ≡ self.old.mux }
-        ensures keeps { KeepsNumbers pass.old pass.new }
         ensures did { LastDid false self.old.mux pass.old pass.new self.old.player self.new.player
             (A.written self.old.air) (A.written self.new.air) result }
-        ensures posted { OnOk result
-            (HasPosted self.old.mux pass.old pass.new self.old.board self.new.board) }
+        ensures posted { OnOk result (HasPosted self.old.mux pass.old pass.new self.old.board self.new.board) }
         ensures board { KeepsBoard self.old.board self.new.board }
         ensures air { Wrote A.faults A.same self.old.air self.new.air result }
     {
@@ -178,11 +174,9 @@ impl<A: Sink> Sender<A> {
     ) -> Result<(), SendStop>
         requires { (halted ≡ false) → CanPlay hall.now.turns pass.old self.old }
         ensures mux { self.new.mux ≡ self.old.mux }
-        ensures keeps { KeepsNumbers pass.old pass.new }
         ensures did { LastDid halted self.old.mux pass.old pass.new self.old.player self.new.player
             (A.written self.old.air) (A.written self.new.air) result }
-        ensures posted { OnOk result
-            (HasPosted self.old.mux pass.old pass.new self.old.board self.new.board) }
+        ensures posted { OnOk result (HasPosted self.old.mux pass.old pass.new self.old.board self.new.board) }
         ensures board { KeepsBoard self.old.board self.new.board }
         ensures air { Wrote A.faults A.same self.old.air self.new.air result }
     {

@@ -47,8 +47,7 @@ fn run_view(job: &mut ViewJob)
 pub(crate) fn run_views<W: Threads + Sync>(rt: &W, jobs: &mut [ViewJob])
     requires { All ViewReady jobs.old }
     ensures len { length jobs.new ≡ length jobs.old }
-    ensures each { (i : ℕ) (d : _) → i < length jobs.old
-        → ViewDid (slice_index_or jobs.old i d) (slice_index_or jobs.new i d) }
+    ensures each { (i : ℕ) (d : _) → i < length jobs.old → ViewDid (slice_index_or jobs.old i d) (slice_index_or jobs.new i d) }
 {
     let run = |_i: usize, job: &mut ViewJob|
         requires { ViewReady job.now }
@@ -68,8 +67,7 @@ impl ViewJob {
         requires room { vec_len self.old.answers < vec_capacity self.old.answers }
         requires said { AreSaid self.old.viewer.posts self.old.service self.old.answers.items }
         ensures service { self.new.service ≡ self.old.service }
-        ensures viewed { Viewed told.posts (length self.old.answers.items + 1) self.old.service
-            self.new.viewer self.new.answers.items }
+        ensures viewed { Viewed told.posts (length self.old.answers.items + 1) self.old.service self.new.viewer self.new.answers.items }
     {
         self.viewer.learn(told);
         ask(self);

@@ -1,10 +1,9 @@
 -- The views of a run, from their jobs to their lines.
-use Rattle.std.proofs.Common.{◌≡◌, ◌≢◌, ◌∙◌, ℕ, ◌+◌, ◌<◌, zero, suc, Bool, true, false, List, [], ◌∷◌, ◌++◌, length, map, take, refl, sym, ap, subst, arith, append-nil, append_assoc, vec_len}
+use Rattle.std.proofs.Common.{◌≡◌, ◌≢◌, ◌∙◌, ◌==◌, ne_eqb, ℕ, ◌+◌, ◌<◌, zero, suc, Bool, true, false, List, [], ◌∷◌, ◌++◌, length, map, take, refl, sym, ap, subst, arith, append-nil, append_assoc, vec_len}
 use Rattle.std.specs.Prelude.{Option, Some, None, Ok, Err, Result, get_or, remove, slice_index_or}
 use Rattle.std.specs.List.{All, AllByRecursion, AllZip}
 use Rattle.std.proofs.lemmas.List.{map-append, take_more}
 use Rattle.std.proofs.lemmas.List.Elements.{All-from_recursion, recursion_from_All}
-use Rattle.si_lists.proofs.Lists.{all_at, all_front}
 use Rattle.mux_model.specs.declared.mux.Mux.{Mux}
 use Rattle.journal_model.specs.declared.step.Entry.{Entry}
 use Rattle.guide_board.specs.declared.lines.NowNext.{NowNext}
@@ -28,6 +27,10 @@ use Rattle.headend_live.specs.Watched.{watched_stop}
 
 -- ---- lists
 
+last_of : {A : Type 0} (P : A → Type 0) (xs : List A) (x : A) → AllByRecursion P (xs ++ x ∷ []) → AllByRecursion P xs × P x
+last_of P [] x all = (tt, all.0)
+last_of P (y ∷ xs) x all = let r = last_of P xs x all.1 in ((all.0, r.0), r.1)
+
 zip_push : {A B : Type 0} (R : A → B → Type 0) (xs : List A) (ys : List B) (x : A) (y : B) → AllZip R xs ys → R x y → AllZip R (xs ++ x ∷ []) (ys ++ y ∷ [])
 zip_push R [] [] x y all is = (is, tt)
 zip_push R [] (z ∷ ys) x y all is = absurd all
@@ -38,6 +41,13 @@ zip_push R (w ∷ xs) (z ∷ ys) x y all is = (all.0, zip_push R xs ys x y all.1
 pub first_of : {A : Type 0} (old new : List A) (x : A) → 0 < length old → x ≡ slice_index_or old 0 x → new ≡ remove old 0 → old ≡ x ∷ new
 first_of [] new x some is rest = absurd (omega (arith, some))
 first_of (y ∷ ys) new x some is rest = ap (λ l. y ∷ l) (sym rest) ∙ ap (λ z. z ∷ new) (sym is)
+
+-- none is left where the list is empty
+pub none_left : {A : Type 0} (xs : List A) (n : ℕ) (empty : Bool) → empty ≡ (n == 0) → empty ≡ true → n ≡ length xs → xs ≡ []
+none_left [] n empty is full len = refl
+none_left (x ∷ xs) n empty is full len =
+    let some : (n == 0) ≡ false = ne_eqb n 0 (λ e. absurd (omega (arith, e, len))) in
+    absurd (let told : true ≡ false = sym full ∙ is ∙ some in cc told)
 
 -- ---- before the run
 
@@ -51,11 +61,11 @@ jobs_none board cycles services viewers jobs none all = (recursion_from_All (λ 
 pub jobs_more : (board : Sight) (cycles n d : ℕ) (services : List ℕ) (old viewers : List Sight) (viewer : Sight) (jobs more : List ViewJob) (job : ViewJob) → n < length services → old ≡ viewers ++ viewer ∷ []
     → IsNew viewer cycles (get_or services n d) job → more ≡ jobs ++ job ∷ [] → HaveJobs board cycles services n old jobs → HaveJobs board cycles services (n + 1) viewers more
 jobs_more board cycles n d services old viewers viewer jobs more job less popped new put (same, all) =
-    let left = subst (AllByRecursion (λ (v : Sight). v ≡ board)) popped same in (
-      all_front (λ (v : Sight). v ≡ board) viewers (viewer ∷ []) left,
+    let left = last_of (λ (v : Sight). v ≡ board) viewers viewer (subst (AllByRecursion (λ (v : Sight). v ≡ board)) popped same) in (
+      left.0,
       subst (λ (l : List ViewJob). AllZip (IsNew board cycles) (take (n + 1) services) l) (sym put)
           (subst (λ (l : List ℕ). AllZip (IsNew board cycles) l (jobs ++ job ∷ [])) (sym (take_more services n d less))
-          (zip_push (IsNew board cycles) (take n services) jobs (get_or services n d) job all (subst (λ (v : Sight). IsNew v cycles (get_or services n d) job) (all_at (λ (v : Sight). v ≡ board) viewers viewer [] left) new))),
+          (zip_push (IsNew board cycles) (take n services) jobs (get_or services n d) job all (subst (λ (v : Sight). IsNew v cycles (get_or services n d) job) left.1 new))),
     )
 
 -- each of them is ready, where the multiplex has its service

@@ -21,8 +21,8 @@ use Rattle.ts_packets.specs.Packets.{joined}
 use Rattle.air_monitor.proofs.Packets.{heard_front, told_taken, was_heard}
 use Rattle.ts_packets.proofs.WholePackets.{whole_packets-front}
 use Rattle.journal_air.specs.AirOf.{AirDid}
-use Rattle.journal_air.proofs.Sent.{did_sent, did_all, rate_some, sent_coherent}
-use Rattle.journal_air.specs.Air.{airings, mux_form}
+use Rattle.journal_air.proofs.Sent.{did_sent}
+use Rattle.journal_air.specs.Air.{airings}
 use Rattle.air_laws.proofs.Coherent.{packets_whole, packets_joined}
 use Rattle.headend_jobs.specs.declared.live.Ended.{Ended}
 use Rattle.headend_jobs.specs.declared.live.LiveStop.{LiveStop}
@@ -36,12 +36,8 @@ use Rattle.headend_live.specs.declared.live.Observed.{Observed}
 use Rattle.headend_live.specs.SentLive.{SentLive}
 use Rattle.headend_live.specs.Viewing.{AreViewed}
 use Rattle.headend_live.specs.Watched.{HeardOfAir, HeardWhole, IsNotTold, IsTold, WatchedRan, watched_stop}
+use Rattle.headend_live.proofs.Sending.{sent_live}
 use Rattle.headend_live.proofs.Viewed.{all_sent, no_stop, tally_known}
-use Rattle.desk_core.specs.Journal.{Legal}
-use Rattle.journal_air.proofs.CarryFacts.{airings_heard}
-use Rattle.journal_air.proofs.JournalScreenShown.{sent_shown}
-use Rattle.journal_air.proofs.SendingKeys.{sent_keys}
-use Rattle.journal_air.proofs.Spaced.{airings_fit, airings_timed, sent_spaced, sent_timed}
 
 packets_sync : (ps : List Packet) → AreInSync (map bytes_of_packet ps)
 packets_sync [] = tt
@@ -116,7 +112,8 @@ end_told jobs log told = record {
   views = told.views.lines;
   viewers = told.views.viewers;
   stop = told.stop;
-  inputs = jobs.inputs;
+  feeds = jobs.inputs.feeds;
+  control = jobs.inputs.control;
 }
 
 module _ {F S : Type 0} (st : Streams F S) (mux : Mux) (plan : LivePlan) (feeds : List (Reading F)) (control : Reading S) (air : Taken) (jobs : Ended F S) (log : MonitorLog) (told : Observed) where
@@ -154,19 +151,6 @@ end_ran st written faults mux m plan p feeds control first last new r mux_is pla
 pub end_kept : {T E A B : Type 0} (now : B → A) (r : Result T E) (lent last : B) (new : A) → new ≡ now last → OnErr r (last ≡ lent) → OnErr r (new ≡ now lent)
 end_kept now (Ok x) lent last new gives kept = tt
 end_kept now (Err e) lent last new gives kept = gives ∙ ap now kept
-
--- what a run sent, from what its player and its control did
-sent_live : (mux : Mux) (journal : List Entry) (sent : Result (Unit {0}) SendStop) (stop : Option LiveStop) (before now : Option (List ℕ)) → IsSound mux → Legal mux journal → AirDid mux journal before now sent
-    → (stop ≡ None → sent ≡ Ok tt) → SentLive mux journal stop before now
-sent_live mux journal sent stop before now sound legal did all = record {
-  sent = did_sent mux journal before now sent did;
-  whole = λ none. did_all mux journal before now sent (all none) did;
-  coherent = λ ids typed air. sent_coherent mux.rate (airings mux journal) before now air (airings_heard mux journal ids typed legal);
-  spaced = λ typed none air. sent_spaced (mux_form mux) (airings mux journal) (airings_fit mux journal sound typed legal) before now air;
-  timed = λ rate read is air. sent_timed rate (rate_some mux.rate rate is sound.rate) (airings mux journal) (airings_timed mux journal read legal) before now air;
-  exact = λ read air. sent_shown mux journal read legal before now air;
-  keys = λ ids typed air. sent_keys mux journal ids.sound (airings_heard mux journal ids typed legal) before now air;
-}
 
 -- what such a run sent
 pub end_sent : {F S E : Type 0} (st : Streams F S) (mux : Mux) (plan : LivePlan) (feeds : List (Reading F)) (control : Reading S) (air : Taken) (r : Result (LiveEnd F S) E) → IsSound mux

@@ -95,7 +95,7 @@ pub record IsNotTold (stop : LiveStop) (o : Observed) : Type 0 where
 
 -- the end of the run of the jobs of which this end tells
 abbrev pub ended_as : {F S : Type 0} → LiveEnd F S → Ended F S → Ended F S
-ended_as end jobs = record jobs { desk = end.desk; tally = end.tally; inputs = end.inputs }
+ended_as end jobs = record jobs { desk = end.desk; tally = end.tally; inputs = record { feeds = end.feeds; control = end.control } }
 
 -- What a run did. Each job read what was ahead of it, and made just its commands, each once, in order, whatever other jobs met; the journal is
 -- legal, has no other callers, and ends with the control's last turns, which are made where no job stopped; the air has the cycles of that

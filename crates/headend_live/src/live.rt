@@ -6,7 +6,7 @@ ghost use Rattle.headend_jobs.specs.Jobs.{streams};
 ghost use Rattle.headend_jobs.specs.Ran.{taken};
 ghost use Rattle.headend_live.specs.SentLive.{SentLive};
 ghost use Rattle.headend_live.specs.Viewing.{AreViewed, IsAsked, IsServiceOf, asked_for};
-ghost use Rattle.headend_live.specs.Watched.{IsNotTold, IsOpened, IsTold, WatchedRan, watched_stop};
+ghost use Rattle.headend_live.specs.Watched.{IsNotTold, IsOpened, IsTold, WatchedRan, wanting_stop, watched_stop};
 
 use crate::views::{Numbers, ViewLines, Views, gather, open_views};
 use air_monitor::{DoneLines, Monitor, MonitorLog};
@@ -14,7 +14,7 @@ use cycle_player::{CyclePlayer, Tally};
 use desk_core::Desk;
 use guide_board::{BoardWriter, Viewers};
 use guide_receiver::Heard;
-use headend_jobs::{Inputs, LiveStop, Sender, ViewJob, open_player, run_hall};
+use headend_jobs::{Inputs, LiveStop, Sender, ViewJob, and_stop, open_player, run_hall};
 use mux_model::Mux;
 use si_causes::{Gate, LineReader, Sink, Source};
 use std::alloc::{AllocError, Global};
@@ -44,16 +44,23 @@ pub struct LiveEnd<F: Source, S: Source> {
     pub views: ViewLines,
     pub viewers: Viewers,
     pub stop: Option<LiveStop>,
-    pub inputs: Inputs<F, S>,
+    pub feeds: Readers<F>,
+    pub control: LineReader<S>,
 }
 
 // The stop of a run, where want of memory for what was heard is one too.
 fn watched_stop(wanting: bool, stop: Option<LiveStop>) -> Option<LiveStop>
     ensures { result ≡ watched_stop wanting stop }
 {
+    and_stop(wanting_stop(wanting), stop)
+}
+
+fn wanting_stop(wanting: bool) -> Option<LiveStop>
+    ensures { result ≡ wanting_stop wanting }
+{
     match wanting {
         true => Some(LiveStop::Memory),
-        false => stop,
+        false => None,
     }
 }
 
@@ -116,8 +123,7 @@ fn observe(
     requires none { (room.lines ≡ []) × (room.viewers ≡ []) }
     ensures told { IsTold log.now stop result }
     ensures viewed { (cycles : ℕ) → AllByRecursion (IsAsked board.old cycles) jobs.items → result.stop ≡ None
-        → AreViewed board.old.posts (cycles + 1) (asked_for jobs.items)
-        result.views.viewers result.views.lines }
+        → AreViewed board.old.posts (cycles + 1) (asked_for jobs.items) result.views.viewers result.views.lines }
 {
     match watched_stop(log.wanting, stop) {
         Some(stop) => return Observed::stopped(alloc, stop),
@@ -211,7 +217,8 @@ fn run_opened<
                 views: told.views.lines,
                 viewers: told.views.viewers,
                 stop: told.stop,
-                inputs: end.inputs,
+                feeds: end.inputs.feeds,
+                control: end.inputs.control,
             };
             (Ok(end), air)
         }
@@ -248,21 +255,23 @@ pub fn run_live<
     alloc: Global,
     mux: Mux,
     plan: LivePlan,
-    inputs: Inputs<F, S>,
+    feeds: Readers<F>,
+    control: LineReader<S>,
     air: &mut A,
     gate: &G,
 ) -> Result<LiveEnd<F, S>, AllocError>
     requires sound { IsSound mux }
-    requires few { length inputs.feeds.items ≤ 16 }
+    requires few { length feeds.items ≤ 16 }
     requires cycles { plan.cycles ≤ 1000 }
     requires views { (length plan.views ≤ 8) × AllByRecursion (IsServiceOf mux) plan.views }
     ensures ran { IfOk result (WatchedRan (streams F.left F.faults F.same S.left S.faults S.same)
-        mux plan inputs.feeds.items inputs.control (taken A.written A.faults air.old air.new)) }
+        mux plan feeds.items control (taken A.written A.faults air.old air.new)) }
     ensures sent { IfOk result (λ end.
         SentLive mux end.desk.entries end.stop (A.written air.old) (A.written air.new)) }
     ensures memory { OnErr result (air.new ≡ air.old) }
 {
     let opened = open_live(rt, alloc, mux, plan)?;
+    let inputs = Inputs { feeds, control };
     let (end, _air) = run_opened(rt, alloc, opened, inputs, &mut *air, gate);
     end
 }

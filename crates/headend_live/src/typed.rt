@@ -1,11 +1,14 @@
 // What multiplexes and journals have by the types of their values.
-ghost use Rattle.std.specs.Prelude.{◌≤◌, IfSome};
+ghost use Rattle.std.specs.Prelude.{◌≤◌, ℕ, IfSome};
 ghost use Rattle.std.specs.List.{AllByRecursion};
 ghost use Rattle.guide_model.specs.Decoding.{IsKept};
 ghost use Rattle.guide_model.specs.Descriptors.{IsOfBytes};
+ghost use Rattle.mux_model.specs.declared.mux.MuxService.{MuxService as OwnService};
 ghost use Rattle.mux_model.specs.declared.mux.RemoteService.{RemoteService as Remote};
+ghost use Rattle.mux_model.specs.declared.mux.Other.{Other as OtherStream};
 ghost use Rattle.mux_model.specs.Fed.{IsNamed, fed_services};
 ghost use Rattle.mux_model.specs.Sound.{HasStreamIds, IsSound, IsSoundWithIds};
+ghost use Rattle.journal_model.specs.declared.step.Entry.{Entry as AnEntry};
 ghost use Rattle.journal_model.specs.Edits.{HasGenreNumbers, IsTypedEdit, IsTypedItem};
 ghost use Rattle.journal_model.specs.Steps.{IsTypedStep};
 ghost use Rattle.journal_air.specs.Laws.{HasTypedEdits};
@@ -30,49 +33,18 @@ fn is_kept(text: &Txt)
     let _text = text.as_str();
 }
 
-// A value of which this holds by the types of its parts.
-trait Typed {
-    ghost holds: { Self → Type 0 };
-
-    fn tell(&self)
-        ensures { holds self.now };
-}
-
-// So it does of each value of a list.
-fn tell_all<T: Typed>(values: &[T])
-    ensures { AllByRecursion T.holds values.now }
+fn has_ids(other: &Other)
+    ensures { HasStreamIds other.now }
 {
-    for value in values {
-        value.tell();
-    }
+    is_word(other.stream);
+    is_word(other.original);
 }
 
-impl Typed for MuxService {
-    ghost holds = { λ service. IsKept service.provider × IsKept service.name };
-
-    fn tell(&self) {
-        is_kept(&self.provider);
-        is_kept(&self.name);
-    }
-}
-
-impl Typed for RemoteService {
-    ghost holds = { λ service. IsKept service.provider × IsKept service.name };
-
-    fn tell(&self) {
-        is_kept(&self.provider);
-        is_kept(&self.name);
-    }
-}
-
-impl Typed for Other {
-    ghost holds = { λ other. HasStreamIds other
-        × AllByRecursion (λ (s : Remote). IsKept s.provider × IsKept s.name) other.services };
-
-    fn tell(&self) {
-        is_word(self.stream);
-        is_word(self.original);
-        tell_all(self.services.as_slice());
+fn have_ids(others: &[Other])
+    ensures { AllByRecursion HasStreamIds others.now }
+{
+    for other in others {
+        has_ids(other);
     }
 }
 
@@ -84,7 +56,40 @@ pub fn mux_has_ids(mux: &Mux)
     is_word(mux.network);
     is_word(mux.stream);
     is_word(mux.original);
-    tell_all(mux.others.as_slice());
+    have_ids(mux.others.as_slice());
+}
+
+fn own_named(services: &[MuxService])
+    ensures { AllByRecursion (λ (s : OwnService). IsKept s.provider × IsKept s.name) services.now }
+{
+    for service in services {
+        is_kept(&service.provider);
+        is_kept(&service.name);
+    }
+}
+
+fn remote_named(services: &[RemoteService])
+    ensures { AllByRecursion (λ (s : Remote). IsKept s.provider × IsKept s.name) services.now }
+{
+    for service in services {
+        is_kept(&service.provider);
+        is_kept(&service.name);
+    }
+}
+
+fn other_named(other: &Other)
+    ensures { AllByRecursion (λ (s : Remote). IsKept s.provider × IsKept s.name) other.now.services }
+{
+    remote_named(other.services.as_slice());
+}
+
+fn others_named(others: &[Other])
+    ensures { AllByRecursion (λ (o : OtherStream).
+        AllByRecursion (λ (s : Remote). IsKept s.provider × IsKept s.name) o.services) others.now }
+{
+    for other in others {
+        other_named(other);
+    }
 }
 
 /// The names of a multiplex may be kept, as all texts.
@@ -93,34 +98,40 @@ pub fn names_are_kept(mux: &Mux)
     ensures services { AllByRecursion IsNamed (fed_services mux.now) }
 {
     is_kept(&mux.network_name);
-    tell_all(mux.services.as_slice());
-    tell_all(mux.others.as_slice());
+    own_named(mux.services.as_slice());
+    others_named(mux.others.as_slice());
 }
 
-impl Typed for Genre {
-    ghost holds = { HasGenreNumbers };
-
-    fn tell(&self) {
-        is_byte(self.level1);
-        is_byte(self.level2);
-        is_byte(self.user);
+fn genres_are_typed(genres: &[Genre])
+    ensures { AllByRecursion HasGenreNumbers genres.now }
+{
+    for genre in genres {
+        is_byte(genre.level1);
+        is_byte(genre.level2);
+        is_byte(genre.user);
     }
 }
 
-impl Typed for u8 {
-    ghost holds = { λ byte. byte ≤ 255 };
-
-    fn tell(&self) {
-        is_byte(*self);
+fn are_bytes(numbers: &[u8])
+    ensures { AllByRecursion (λ (b : ℕ). b ≤ 255) numbers.now }
+{
+    for number in numbers {
+        is_byte(*number);
     }
 }
 
-impl Typed for RawDesc {
-    ghost holds = { IsOfBytes };
+fn descriptor_is_typed(desc: &RawDesc)
+    ensures { IsOfBytes desc.now }
+{
+    is_byte(desc.tag);
+    are_bytes(desc.body.as_slice());
+}
 
-    fn tell(&self) {
-        is_byte(self.tag);
-        tell_all(self.body.as_slice());
+fn descriptors_are_typed(descs: &[RawDesc])
+    ensures { AllByRecursion IsOfBytes descs.now }
+{
+    for desc in descs {
+        descriptor_is_typed(desc);
     }
 }
 
@@ -134,18 +145,24 @@ fn rating_is_typed(rating: &Option<RawRating>)
     }
 }
 
-impl Typed for Item {
-    ghost holds = { IsTypedItem };
+fn item_is_typed(item: &Item)
+    ensures { IsTypedItem item.now }
+{
+    is_word(item.id);
+    rating_is_typed(&item.rating);
+    genres_are_typed(item.genres.as_slice());
+    descriptors_are_typed(item.descriptors.as_slice());
+    is_kept(&item.language);
+    is_kept(&item.name);
+    is_kept(&item.short);
+    is_kept(&item.extended);
+}
 
-    fn tell(&self) {
-        is_word(self.id);
-        rating_is_typed(&self.rating);
-        tell_all(self.genres.as_slice());
-        tell_all(self.descriptors.as_slice());
-        is_kept(&self.language);
-        is_kept(&self.name);
-        is_kept(&self.short);
-        is_kept(&self.extended);
+fn items_are_typed(items: &[Item])
+    ensures { AllByRecursion IsTypedItem items.now }
+{
+    for item in items {
+        item_is_typed(item);
     }
 }
 
@@ -155,7 +172,7 @@ fn edit_is_typed(edit: &Edit)
     match edit {
         Edit::Put(service, item) => {
             is_word(*service);
-            item.tell();
+            item_is_typed(item);
         }
         Edit::Withdraw(service, event) => {
             is_word(*service);
@@ -169,19 +186,25 @@ fn edit_is_typed(edit: &Edit)
         }
         Edit::Day(service, _, items) => {
             is_word(*service);
-            tell_all(items.as_slice());
+            items_are_typed(items.as_slice());
         }
     }
 }
 
-impl Typed for Entry {
-    ghost holds = { λ entry. IsTypedStep entry.step };
+fn step_is_typed(step: &Step)
+    ensures { IsTypedStep step.now }
+{
+    if let Step::Edit(feed, edit) = step {
+        is_byte(*feed);
+        edit_is_typed(edit);
+    }
+}
 
-    fn tell(&self) {
-        if let Step::Edit(feed, edit) = &self.step {
-            is_byte(*feed);
-            edit_is_typed(edit);
-        }
+fn steps_are_typed(entries: &[Entry])
+    ensures { AllByRecursion (λ (entry : AnEntry). IsTypedStep entry.step) entries.now }
+{
+    for entry in entries {
+        step_is_typed(&entry.step);
     }
 }
 
@@ -190,7 +213,7 @@ impl Typed for Entry {
 pub fn edits_are_typed(entries: &[Entry])
     ensures { HasTypedEdits entries.now }
 {
-    tell_all(entries);
+    steps_are_typed(entries);
 }
 
 /// The multiplex and the journal of a desk are such as lines give them. It takes no memory, but

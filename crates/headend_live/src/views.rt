@@ -63,8 +63,7 @@ impl Views {
 
     // Adds a view.
     fn add(&mut self, view: ViewJob) -> Result<(), AllocError>
-        ensures lines { OnOk result
-            (self.new.lines ≡ self.old.lines ++ map (line_of view.service) view.answers.items) }
+        ensures lines { OnOk result (self.new.lines ≡ self.old.lines ++ map (line_of view.service) view.answers.items) }
         ensures viewers { OnOk result (self.new.viewers ≡ self.old.viewers ++ view.viewer ∷ []) }
     {
         put_lines(&mut self.lines, view.service, view.answers.as_slice())?;
@@ -158,8 +157,7 @@ pub(crate) fn gather(
     requires asked { (cycles : ℕ) × AllByRecursion (IsAsked board.old cycles) jobs.items }
     requires none { (views.lines ≡ []) × (views.viewers ≡ []) }
     ensures { (cycles : ℕ) → AllByRecursion (IsAsked board.old cycles) jobs.items
-        → IfOk result (λ views.
-        AreViewed board.old.posts (cycles + 1) (asked_for jobs.items) views.viewers views.lines) }
+        → IfOk result (λ views. AreViewed board.old.posts (cycles + 1) (asked_for jobs.items) views.viewers views.lines) }
 {
     'asked: while !jobs.is_empty() {
         let told = board.tell()?;

@@ -3,7 +3,7 @@ ghost use Rattle.std.specs.Prelude.{◌≤◌, length, IfOk};
 
 use crate::halls::two_services;
 use crate::words::{put_entries, put_steps_of, put_stop};
-use headend_live::{DoneLine, Inputs, LiveEnd, LivePlan, LiveStop, Numbers, Readers, run_live};
+use headend_live::{DoneLine, LiveEnd, LivePlan, LiveStop, Numbers, Readers, run_live};
 use journal_model::Entry;
 use row_lines::{Buffer, Holding, WHOLE, World, reader, say};
 use si_causes::{MemSink, MemSource};
@@ -51,7 +51,7 @@ fn ended_of<W: World>(
         join: u64::from(run.join),
         views: Numbers::new(alloc),
     };
-    run_live(rt, alloc, mux, plan, Inputs { feeds, control }, air, gate)
+    run_live(rt, alloc, mux, plan, feeds, control, air, gate)
 }
 
 fn put_live_stop(out: &mut Buffer, stop: Option<LiveStop>) {

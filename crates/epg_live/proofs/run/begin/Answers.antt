@@ -7,7 +7,8 @@ use Rattle.epg_report.specs.Told.{asked, gave}
 use Rattle.epg_live.specs.Met.{StopsBefore}
 use Rattle.epg_live.specs.Opened.{NotOpened}
 use Rattle.epg_live.specs.Views.{plan_of, unserved}
-use Rattle.epg_live.proofs.MetFacts.{has_read, mux_before, open_before, plan_before, view_before}
+use Rattle.epg_live.proofs.DescribedFacts.{has_read}
+use Rattle.epg_live.proofs.MetFacts.{mux_before, open_before, plan_before, view_before}
 use Rattle.epg_live.proofs.run.begin.Goals as goal
 
 pub returns-in-Err-clause-stopped : goal.returns-in-Err-clause-stopped

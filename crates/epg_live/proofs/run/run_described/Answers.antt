@@ -1,4 +1,4 @@
-use Rattle.std.proofs.Common.{◌≡◌, ◌≤◌, ◌∙◌, length, List, Option, ℕ, Ok, None, refl, sym, ap, subst, string_bytes, arith, [], ◌∷◌, inl, inr}
+use Rattle.std.proofs.Common.{◌≡◌, ◌≤◌, ◌∙◌, length, List, Option, ℕ, Ok, None, refl, sym, ap, subst, string_bytes, arith}
 use Rattle.std.proofs.lemmas.List.{length-map}
 use Rattle.si_causes.specs.Causes.{Rose}
 use Rattle.mux_config.specs.Reads.{ReadMux}
@@ -12,22 +12,12 @@ use Rattle.epg_report.specs.declared.status.Status.{Status}
 use Rattle.epg_report.specs.Told.{asked, gave, told}
 use Rattle.epg_live.specs.declared.reporting.LiveResult.{LiveResult}
 use Rattle.epg_live.specs.Met.{LiveMet, none_ran}
-use Rattle.epg_live.specs.Opened.{HasTried, IfFailed, IsOpened}
-use Rattle.epg_live.specs.Views.{plan_of, unserved, has_service}
-use Rattle.std.proofs.lemmas.Slice.Zip.{AllZip-long}
+use Rattle.epg_live.specs.Opened.{HasTried, IfFailed}
+use Rattle.epg_live.specs.Views.{plan_of, unserved}
+use Rattle.epg_live.proofs.OpenFacts.{opened_length}
 use Rattle.epg_live.proofs.RanFacts.{jobs_met, told_of, watched_same}
+use Rattle.epg_live.proofs.ViewFacts.{all_served}
 use Rattle.epg_live.proofs.run.run_described.Goals as goal
-use Rattle.std.specs.Prelude.{Some, None}
-use Rattle.std.proofs.lemmas.Bool.{cases_Bool}
-use Rattle.mux_model.specs.declared.mux.Mux.{Mux}
-
--- services of views are those that feeds edit, where none is lacking
-all_served : (mux : Mux) (views : List ℕ) → unserved mux views ≡ None → AllByRecursion (IsServiceOf mux) views
-all_served mux [] none = tt
-all_served mux (view ∷ views) none = elim (cases_Bool (has_service mux view)) [
-  | inl has ↦ (has, all_served mux views (rw has at none))
-  | inr lacks ↦ (let bad : Some view ≡ None = rw lacks at none in cc bad)
-]
 
 pub returns-in-Err-clause-met : goal.returns-in-Err-clause-met
 returns-in-Err-clause-met g c =
@@ -54,13 +44,13 @@ returns-clause-met g c =
     let opener = asked g.O.Opener.files g.O.Opener.tried g.O.Opener.faults g.O.Opener.read_faults old new in
     let air = told g.A.Sink.written g.A.Sink.faults c.args.air.now c.run_live.new.air in
     let served : unserved begun.mux begun.plan.views ≡ None = ap (λ (p : LivePlan). unserved begun.mux p.views) e.plan ∙ e.served in
-    let rose = subst (λ (n : ℕ). IfFailed g.O.From.Source.faults (Rose n (g.O.Opener.read_faults new)) end.inputs.feeds.items) e.kept.0 c.close_feeds.ensures.closes.rose in
+    let rose = subst (λ (n : ℕ). IfFailed g.O.From.Source.faults (Rose n (g.O.Opener.read_faults new)) end.feeds.items) e.kept.0 c.close_feeds.ensures.closes.rose in
     let met = jobs_met (streams g.O.From.Source.left g.O.From.Source.faults g.O.From.Source.same g.S.Source.left g.S.Source.faults g.S.Source.same) begun.mux begun.plan begun.feeds.items c.begin.new.lines paths opener
     c.args.lines.source air end c.in_ok-end.ensures.ran (subst (λ r. ReadMux g.S.Source.left g.S.Source.faults g.S.Source.same r c.begin.new.lines (Ok begun.mux)) c.requires.unread e.read)
     e.opened.opened (subst (λ (o : Option (List (List ℕ))). HasTried (g.O.Opener.tried old) o paths) (sym c.close_feeds.ensures.tried) e.opened.tried) rose served in
     subst (λ (p : LivePlan). LiveMet paths p opener (gave g.S.Source.left g.S.Source.faults c.args.lines.source c.close-source-2.result) air (record (told_of begun.mux end) { met = c.live_status-met.result })) e.plan
     (subst (λ s. LiveMet paths begun.plan opener (gave g.S.Source.left g.S.Source.faults c.args.lines.source s) air (record (told_of begun.mux end) { met = c.live_status-met.result })) (sym c.close-source-2.ensures)
-    (subst (λ (s : Status). LiveMet paths begun.plan opener (gave g.S.Source.left g.S.Source.faults c.args.lines.source end.inputs.control.source) air (record (told_of begun.mux end) { met = s })) (sym c.live_status-met.ensures) met))
+    (subst (λ (s : Status). LiveMet paths begun.plan opener (gave g.S.Source.left g.S.Source.faults c.args.lines.source end.control.source) air (record (told_of begun.mux end) { met = s })) (sym c.live_status-met.ensures) met))
 
 pub returns-clause-same : goal.returns-clause-same
 returns-clause-same g c =
@@ -78,7 +68,7 @@ pub run_live-requires-clause-few : goal.run_live-requires-clause-few
 run_live-requires-clause-few g c κs within =
     let items = c.args.words.now.feeds.items in
     let feeds = c.in-Ok.begun.feeds.items in
-    let readers : length feeds ≡ length (texts items) = AllZip-long (IsOpened g.O.From.Source.left g.O.From.Source.faults (g.O.Opener.files c.args.opener.now)) (texts items) feeds c.in-Ok.ensures.opened.opened in
+    let readers : length feeds ≡ length (texts items) = opened_length g.O.From.Source.left g.O.From.Source.faults (g.O.Opener.files c.args.opener.now) (texts items) feeds c.in-Ok.ensures.opened.opened in
     omega (arith, readers, length-map items string_bytes, c.requires.few)
 
 pub run_live-requires-clause-views : goal.run_live-requires-clause-views

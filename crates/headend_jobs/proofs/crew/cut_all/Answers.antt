@@ -1,6 +1,6 @@
 use Rattle.std.proofs.Common.{◌≡◌, ◌∙◌, ◌+◌, ◌-◌, ◌≤◌, ap, arith, rules, length, [], ◌∷◌, length-append}
 use Rattle.desk_hall.specs.Turn.{View}
-use Rattle.headend_jobs.proofs.Joining.{cut_more, cut_all}
+use Rattle.headend_jobs.proofs.Cutting.{cut_more, cut_all}
 use Rattle.headend_jobs.proofs.crew.cut_all.Goals as goal
 
 pub loop-lines-preserved : goal.loop-lines-preserved

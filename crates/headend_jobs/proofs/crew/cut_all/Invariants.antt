@@ -1,5 +1,5 @@
 use Rattle.std.proofs.Common.{◌≡◌, ◌≤◌, ◌+◌, length}
-use Rattle.headend_jobs.proofs.Joining.{Cut}
+use Rattle.headend_jobs.proofs.Cutting.{Cut}
 use Rattle.headend_jobs.proofs.crew.cut_all.Given as goal
 
 abbrev pub invariant-loop-lines : goal.invariant-loop-lines

@@ -1,41 +1,22 @@
-use Rattle.std.proofs.Common.{Bool, true, false}
-use base.Shift.{Keyless}
-use mir.Syntax.{of_param}
-use denote.Exit.{Last, if_kept, left, unseen}
-use denote.Param.Send.{sendable}
+use Rattle.std.proofs.Common.{List, sym, subst}
+use Rattle.std.proofs.lemmas.Slice.Zip.{AllZip-long}
+use Rattle.desk_hall.specs.Reads.{stream}
+use Rattle.headend_jobs.specs.declared.jobs.FeedJob.{FeedJob}
+use Rattle.headend_jobs.specs.declared.views.ViewJob.{ViewJob}
+use Rattle.headend_jobs.specs.Jobs.{FeedDid, FeedsDid}
+use Rattle.headend_jobs.specs.Views.{ViewsDid}
+use Rattle.headend_jobs.proofs.Joining.{written_back}
 use Rattle.headend_jobs.proofs.jobs.run_side_by_side.Goals as goal
 
--- what is not seen leaves nothing
-quiet : {D : Type 0} (kept : Bool) (x : D) (w : Last (if_kept kept (unseen {D = D}) (unseen {D = D})) x)
-    → Keyless (left (if_kept kept (unseen {D = D}) (unseen {D = D})) x w)
-quiet true x w = tt
-quiet false x w = tt
-
-pub join_mut-requires-after_bounds : goal.join_mut-requires-after_bounds
-join_mut-requires-after_bounds g c κs within =
-    let b = c.type_bounds in
-    let r = c.requires in (
-      (
-        (
-          record { owned = b.send-F.owned; leaving = λ k. quiet (k (of_param 1)) },
-          record { owned = b.send-S.owned; leaving = λ k. quiet (k (of_param 2)) },
-          search (sendable, b.sync-W),
-          search (sendable, b.sync-G),
-          r.others,
-        ),
-        (
-          record { owned = b.send-F.owned; leaving = λ k. quiet (k (of_param 1)) },
-          record { owned = b.send-S.owned; leaving = λ k. quiet (k (of_param 2)) },
-          search (sendable, b.sync-W),
-          search (sendable, b.sync-G),
-        ),
-      ),
-      (
-        r.player,
-        (
-          record { owned = b.send-A.owned; leaving = λ k. quiet (k (of_param 1)) },
-          search (sendable, b.sync-W),
-          search (sendable, b.sync-G),
-        ),
-      ),
-    )
+pub returns-clause-others : goal.returns-clause-others
+returns-clause-others g c =
+    let st = stream g.F.Source.left g.F.Source.faults g.F.Source.same in
+    let r = c.run_both in
+    let old = c.args.others.now in
+    let feeds = written_back old.feeds.len old.feeds.items r.new.feeds c.as_mut_slice.result.now old.feeds.ok.0 (AllZip-long (FeedDid st) c.as_mut_slice.result.now r.new.feeds r.ensures.feeds) c.as_mut_slice.ensures.value in
+    let views = written_back old.views.len old.views.items r.new.views c.as_mut_slice-2.result.now old.views.ok.0 r.ensures.views.len c.as_mut_slice-2.ensures.value in
+    record {
+      feeds = subst (FeedsDid st old.feeds.items) (sym feeds) (subst (λ (l : List (FeedJob g.row.F.Denot)). FeedsDid st l r.new.feeds) c.as_mut_slice.ensures.value r.ensures.feeds);
+      control = r.ensures.control;
+      views = subst (ViewsDid old.views.items) (sym views) (subst (λ (l : List ViewJob). ViewsDid l r.new.views) c.as_mut_slice-2.ensures.value r.ensures.views);
+    }

@@ -9,15 +9,15 @@ returns-clause-ran g c =
     let ran = c.run_opened-end in
     let o = c.in_ok-opened in
     end_ran (streams g.F.Source.left g.F.Source.faults g.F.Source.same g.S.Source.left g.S.Source.faults g.S.Source.same) g.A.Sink.written g.A.Sink.faults c.args.mux o.opened.mux c.args.plan o.opened.plan
-    c.args.inputs.feeds.items c.args.inputs.control c.args.air.now ran.result.1.now _ ran.result.0 o.ensures.mux_is o.ensures.plan_is (search rules) ran.ensures.ran
+    c.args.feeds.items c.args.control c.args.air.now ran.result.1.now _ ran.result.0 o.ensures.mux_is o.ensures.plan_is (search rules) ran.ensures.ran
 
 pub returns-clause-sent : goal.returns-clause-sent
 returns-clause-sent g c =
     let ran = c.run_opened-end in
     let o = c.in_ok-opened in
     let st = streams g.F.Source.left g.F.Source.faults g.F.Source.same g.S.Source.left g.S.Source.faults g.S.Source.same in
-    end_sent st c.args.mux c.args.plan c.args.inputs.feeds.items c.args.inputs.control (taken g.A.Sink.written g.A.Sink.faults c.args.air.now _) ran.result.0 c.requires.sound
-    (end_ran st g.A.Sink.written g.A.Sink.faults c.args.mux o.opened.mux c.args.plan o.opened.plan c.args.inputs.feeds.items c.args.inputs.control c.args.air.now ran.result.1.now _ ran.result.0
+    end_sent st c.args.mux c.args.plan c.args.feeds.items c.args.control (taken g.A.Sink.written g.A.Sink.faults c.args.air.now _) ran.result.0 c.requires.sound
+    (end_ran st g.A.Sink.written g.A.Sink.faults c.args.mux o.opened.mux c.args.plan o.opened.plan c.args.feeds.items c.args.control c.args.air.now ran.result.1.now _ ran.result.0
     o.ensures.mux_is o.ensures.plan_is (search rules) ran.ensures.ran)
 
 pub returns-clause-memory : goal.returns-clause-memory

@@ -1,11 +1,10 @@
-use Rattle.std.proofs.Common.{◌≡◌, ◌∙◌, ◌+◌, ◌<◌, List, length, refl, ap, subst, arith, rules}
+use Rattle.std.proofs.Common.{◌∙◌, ◌+◌, ◌<◌, List, length, refl, ap, subst, arith}
 use Rattle.std.specs.List.{AllByRecursion}
-use Rattle.std.proofs.lemmas.List.{nil_from_length}
 use Rattle.guide_board.specs.declared.post.Post.{Post}
 use Rattle.guide_board.specs.Posts.{Sight}
 use Rattle.headend_jobs.specs.Views.{Viewed}
 use Rattle.headend_live.specs.Viewing.{IsAsked}
-use Rattle.headend_live.proofs.Viewed.{first_of, told_all, told_more, told_none}
+use Rattle.headend_live.proofs.Viewed.{first_of, none_left, told_all, told_more, told_none}
 use Rattle.headend_live.proofs.views.gather.Goals as goal
 
 pub asked-init : goal.asked-init
@@ -31,6 +30,5 @@ asked-preserved c =
 
 pub returns : goal.returns
 returns c = λ cycles asked.
-    let zero : length c.asked.jobs.items ≡ 0 = search rules in
     told_all c.args.board.now cycles c.args.jobs.items c.asked.jobs.items c.asked.views.viewers c.asked.views.lines
-    (nil_from_length c.asked.jobs.items zero) (c.asked.invariant.told cycles asked)
+    (none_left c.asked.jobs.items _ c.is_empty.result c.is_empty.ensures c.asked-test.false c.asked.jobs.ok.0) (c.asked.invariant.told cycles asked)

@@ -12,7 +12,7 @@ use Rattle.headend_jobs.specs.Jobs.{callers_of, lines_of, stops_of}
 use Rattle.headend_jobs.specs.Live.{EndDid, LastDid}
 use Rattle.headend_jobs.specs.Posting.{posts_of}
 use Rattle.headend_jobs.specs.Stops.{feeds_stop, halts}
-use Rattle.headend_jobs.proofs.Ending.{ended}
+use Rattle.headend_jobs.proofs.Ending.{ended, stays, stays_numbers, stays_on, stays_turns}
 use Rattle.headend_jobs.proofs.Joining.{finished_is, has_same}
 use Rattle.headend_jobs.proofs.Posts.{posted_whole}
 use Rattle.headend_jobs.proofs.Running.{and_ok, apart_are, going_ready, have, swaps_are}
@@ -36,18 +36,24 @@ last_turns-last-requires-after_bounds g c κs within = λ going.
 pub close-desk-requires-clause-turns : goal.close-desk-requires-clause-turns
 close-desk-requires-clause-turns g c =
     let joined = c.join_all-feed.ensures.joined in
-    c.last_turns-last.ensures.keeps.turns ∙ joined.turns ∙ ap (λ (z : View). z.turns) c.join.ensures.joined ∙ c.requires.control.turns_are
+    let s = c.args.sender.now in
+    let last = c.last_turns-last in
+    stays_turns c.join_all-feed.new.pass last.new.pass
+    (stays c.halts-halted.result s.mux c.join_all-feed.new.pass last.new.pass s.player last.new.self.player (g.A.Sink.written s.air) (g.A.Sink.written last.new.self.air) last.result last.ensures.did)
+    ∙ joined.turns ∙ ap (λ (z : View). z.turns) c.join.ensures.joined ∙ c.requires.control.turns_are
 
 pub close-desk-requires-clause-whole : goal.close-desk-requires-clause-whole
 close-desk-requires-clause-whole g c = λ k less.
     let crew = c.args.self in
     let joined = c.join_all-feed.ensures.joined in
+    let s = c.args.sender.now in
     let last = c.last_turns-last in
     let v = c.join_all-feed.new.pass in
-    let n = last.ensures.keeps in
+    let n = stays_numbers v last.new.pass
+    (stays c.halts-halted.result s.mux v last.new.pass s.player last.new.self.player (g.A.Sink.written s.air) (g.A.Sink.written last.new.self.air) last.result last.ensures.did) in
     let own = joined.own ∙ ap (λ (z : View). z.own) c.join.ensures.joined in
     let all = finished_is crew.others.control.pass crew.player.pass c.join.new.self v (callers_of crew.others.feeds.items) c.join.ensures.joined joined.finished c.requires.control.alone c.requires.player.alone in
-    has_same crew.others.control.pass.own last.new.pass.own _ _ k (n.low ∙ ap (λ z. z.low) own) (n.span ∙ ap (λ z. z.span) own) (n.finished ∙ all)
+    has_same crew.others.control.pass.own last.new.pass.own _ _ k (n.0 ∙ ap (λ z. z.low) own) (n.1 ∙ ap (λ z. z.span) own) (n.2 ∙ all)
     (have crew.hall.turns crew.others.feeds.items c.requires.feeds crew.others.control.pass crew.player.pass c.requires.control c.requires.player crew.hall.callers c.requires.callers k less)
 
 pub returns : goal.returns
@@ -65,8 +71,9 @@ returns g c =
     let journal = c.close-desk.result.entries in
     let mid = g.A.Sink.written s.air in
     let now = g.A.Sink.written t.air in
+    let stay = stays c.halts-halted.result s.mux v w s.player t.player mid now last.result last.ensures.did in
     let own : v.own ≡ control.pass.own = joined.own ∙ ap (λ (z : View). z.own) c.join.ensures.joined in
-    let mux : c.close-desk.result.mux ≡ s.mux = some_same c.close-desk.result.mux s.mux (sym c.close-desk.ensures.stands ∙ last.ensures.keeps.on ∙ joined.on ∙ ap (λ (z : View). z.on) c.join.ensures.joined ∙ c.requires.stands) in
+    let mux : c.close-desk.result.mux ≡ s.mux = some_same c.close-desk.result.mux s.mux (sym c.close-desk.ensures.stands ∙ stays_on v w stay ∙ joined.on ∙ ap (λ (z : View). z.on) c.join.ensures.joined ∙ c.requires.stands) in
     let stop : c.join_all-feed.result ≡ feeds_stop None 1 (stops_of feeds) = c.join_all-feed.ensures.stop in
     let seen = prefix_trans player.pass.seen c.join.new.self.seen v.seen c.join.ensures.told joined.began in
     let did = ended s.mux control.pass player.pass (callers_of feeds) s.player mid now journal v w
@@ -94,7 +101,7 @@ returns g c =
       posted = subst (λ r. OnOk r (t.board.posts ≡ posts_of s.mux journal)) (sym sent)
           (and_ok _ _ _ player.end last.result
           (posted_whole s.mux control.pass.own player.pass.own (callers_of feeds) did.final journal player.pass v w s.board t.board did.journal_did
-          refl own (ap (λ k. entries_of caller_of k journal) (sym (last.ensures.keeps.low ∙ ap (λ z. z.low) own)) ∙ c.close-desk.ensures.closes.exact.made.0) seen c.close-desk.ensures.closes.began)
+          refl own (ap (λ k. entries_of caller_of k journal) (sym ((stays_numbers v w stay).0 ∙ ap (λ z. z.low) own)) ∙ c.close-desk.ensures.closes.exact.made.0) seen c.close-desk.ensures.closes.began)
           c.requires.posted last.ensures.posted);
       board = last.ensures.board;
       feeds = c.join_all-feed.ensures.back ∙ ap (λ l. l ++ lines_of feeds) c.requires.none;

@@ -4,7 +4,7 @@ use Rattle.turn_lock.specs.Knowledge.{Lock}
 use Rattle.desk_hall.specs.Turn.{View}
 use Rattle.headend_jobs.specs.declared.jobs.ControlJob.{ControlJob}
 use Rattle.headend_jobs.specs.declared.jobs.PlayerJob.{PlayerJob}
-use Rattle.headend_jobs.proofs.Joining.{cut_done, cut_new, feeds_len, kept_new}
+use Rattle.headend_jobs.proofs.Cutting.{cut_done, cut_new, feeds_len, kept_new}
 use Rattle.headend_jobs.proofs.crew.Crew.open.Goals as goal
 
 pub split-own-requires-clause-turns : goal.split-own-requires-clause-turns

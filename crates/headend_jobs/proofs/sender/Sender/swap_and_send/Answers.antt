@@ -1,17 +1,16 @@
 use Rattle.std.proofs.Common.{◌≡◌, ◌∙◌, ap, inl, subst, sym}
-use Rattle.si_lists.proofs.Outcomes.{on_ok}
 use Rattle.guide_board.specs.Posts.{IsInOrder, services_in, services_of, with_post}
 use Rattle.desk_core.specs.declared.airing.Airing.{Airing}
-use Rattle.headend_jobs.proofs.Posts.{guide_in_order, posted_swap, posted_then, posted_tick}
+use Rattle.headend_jobs.proofs.Posts.{guide_in_order, if_ok, post_services, posted_swap, posted_then, posted_tick}
 use Rattle.headend_jobs.specs.Ticking.{Ticked}
-use Rattle.headend_jobs.proofs.Swaps.{airing_services}
+use Rattle.headend_jobs.proofs.Airs.{airing_services, stands_still}
 use Rattle.headend_jobs.proofs.Running.{end_left}
 use Rattle.headend_jobs.proofs.sender.Sender.swap_and_send.Goals as goal
 
 pub send_cycle-requires-clause-services : goal.send_cycle-requires-clause-services
 send_cycle-requires-clause-services g c =
     airing_services c.args.self.now.mux c.in-Ok.airing c.swap.new.pass
-    (c.in-Ok.ensures.airing c.args.self.now.mux (c.swap.ensures.keeps.on ∙ c.tick_first.ensures.keeps.on ∙ c.requires.stands))
+    (c.in-Ok.ensures.airing c.args.self.now.mux (stands_still c.args.self.now.mux _ _ c.tick_first.new.pass c.swap.new.pass (c.tick_first.ensures.keeps.on ∙ c.requires.stands) c.in-Ok.ensures.made))
 
 pub returns-clause-played : goal.returns-clause-played
 returns-clause-played g c = inl (record {
@@ -19,7 +18,7 @@ returns-clause-played g c = inl (record {
   ticked = subst (λ o. Ticked o c.args.pass.now c.tick_first.new.pass) c.tick_now.ensures.tick c.in_ok-tick_first.ensures.made;
   airing = c.in-Ok.airing;
   made = c.in-Ok.ensures.made;
-  airing_is = c.in-Ok.ensures.airing c.args.self.now.mux (c.swap.ensures.keeps.on ∙ c.tick_first.ensures.keeps.on ∙ c.requires.stands);
+  airing_is = c.in-Ok.ensures.airing c.args.self.now.mux (stands_still c.args.self.now.mux _ _ c.tick_first.new.pass c.swap.new.pass (c.tick_first.ensures.keeps.on ∙ c.requires.stands) c.in-Ok.ensures.made);
   sent = c.send_cycle.ensures.sent;
   form = c.send_cycle.ensures.form;
   rate = c.send_cycle.ensures.rate;
@@ -33,17 +32,18 @@ post-requires-clause-order g c = subst (λ (a : Airing). IsInOrder a.guide) (sym
 pub post-requires-clause-services : goal.post-requires-clause-services
 post-requires-clause-services g c =
     subst (λ (a : Airing). services_of a.guide ≡ services_in c.args.self.now.board.posts) (sym c.airing.view_is)
+    (post_services c.args.self.now.mux c.in-Ok.airing.guide c.args.self.now.board.posts
     (airing_services c.args.self.now.mux c.in-Ok.airing c.swap.new.pass
-    (c.in-Ok.ensures.airing c.args.self.now.mux (c.swap.ensures.keeps.on ∙ c.tick_first.ensures.keeps.on ∙ c.requires.stands))
-    ∙ sym c.requires.served)
+    (c.in-Ok.ensures.airing c.args.self.now.mux (stands_still c.args.self.now.mux _ _ c.tick_first.new.pass c.swap.new.pass (c.tick_first.ensures.keeps.on ∙ c.requires.stands) c.in-Ok.ensures.made)))
+    c.requires.served)
 
 pub returns-clause-posted : goal.returns-clause-posted
 returns-clause-posted g c =
-    on_ok c.send_cycle.result _
+    if_ok _ c.send_cycle.result
     (posted_then c.args.self.now.mux c.args.pass.now c.tick_first.new.pass c.swap.new.pass c.args.self.now.board c.args.self.now.board c.post.new.self
     (posted_tick c.args.self.now.mux c.tick_now.result c.args.pass.now c.tick_first.new.pass c.args.self.now.board c.in_ok-tick_first.ensures.made)
     (posted_swap c.args.self.now.mux c.in-Ok.airing c.tick_first.new.pass c.swap.new.pass c.args.self.now.board c.post.new.self c.in-Ok.ensures.made
-    (c.in-Ok.ensures.airing c.args.self.now.mux (c.swap.ensures.keeps.on ∙ c.tick_first.ensures.keeps.on ∙ c.requires.stands))
+    (c.in-Ok.ensures.airing c.args.self.now.mux (stands_still c.args.self.now.mux _ _ c.tick_first.new.pass c.swap.new.pass (c.tick_first.ensures.keeps.on ∙ c.requires.stands) c.in-Ok.ensures.made))
     (c.in_ok-post.ensures.posted ∙ ap (λ (a : Airing). with_post c.args.self.now.board a.number a.guide) c.airing.view_is)))
 
 pub send_cycle-requires-clause-at_end : goal.send_cycle-requires-clause-at_end
