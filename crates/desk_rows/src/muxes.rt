@@ -74,11 +74,13 @@ fn put_remote(out: &mut Buffer, service: &RemoteService) {
     let (provider, name) = (service.provider.as_str(), service.name.as_str());
     say!(out; "; remote {} of feed {}", service.service, service.feed);
     say!(out; ", type {}, \"{provider}\" \"{name}\"", service.kind);
+    put_further(out, ", ", &service.descriptors);
 }
 
 fn put_other(out: &mut Buffer, other: &Other) {
     say!(out; "; other {} of {}", other.stream, other.original);
     put_cable(out, other.cable.as_ref());
+    put_further(out, ", ", &other.descriptors);
     let remotes = other.services.as_slice();
     put_each(out, remotes, "remote services", put_remote);
 }

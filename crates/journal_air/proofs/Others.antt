@@ -3,8 +3,6 @@ use Rattle.std.proofs.Common.{◌≡◌, ℕ, ◌==◌, ◌&&◌, List, [], ◌�
 use Rattle.std.specs.Prelude.{not, filter, if◌then◌else◌}
 use Rattle.std.specs.List.{AllByRecursion}
 use Rattle.std.proofs.lemmas.Bool.Decides.{nat_tests}
-use Rattle.std.proofs.lemmas.List.Elements.{All-nil}
-use Rattle.guide_model.specs.Descriptors.{FitsDescriptor}
 use Rattle.si_lists.proofs.Lists.{all_map, all_to_map}
 use Rattle.si_lists.proofs.Filters.{all_stay}
 use Rattle.guide_model.specs.declared.shown.Shown.TheVariants.{Text}
@@ -37,8 +35,9 @@ use Rattle.publication.specs.Parts.{part_of}
 use Rattle.publication.specs.Sdt.{remote_entries, remote_entry, named_service, sdt_services}
 use Rattle.publication.specs.Tables.{other_sdt_key, other_sdt_table, bearer_of}
 use Rattle.publication.proofs.PartFacts.{part_id}
+use Rattle.publication.proofs.SdtFacts.{small_remote}
 use Rattle.journal_air.specs.Screen.{now_shown, next_shown, part_shown, other_shown}
-use Rattle.journal_air.proofs.Own.{IsNamed, sdt_said, remote_in_order, cables_said, none_further}
+use Rattle.journal_air.proofs.Own.{IsNamed, sdt_said, remote_in_order, cables_said, further_said}
 use Rattle.journal_air.proofs.Events.{HasIds}
 use Rattle.journal_air.proofs.Schedules.{AreSentAt, has_all}
 use Rattle.journal_air.proofs.Held.{Held, CanBeShown, HasEvents, now_is, next_is, events_are}
@@ -82,7 +81,7 @@ module _ (guide : Guide) (content : Key → Option Content) (o : Other) (ids : H
       kind = s.kind;
       provider = Text g.provider;
       name = Text g.name;
-      descriptors = [];
+      descriptors = s.descriptors;
       now = now;
       next = next;
       events = events;
@@ -117,7 +116,7 @@ module _ (guide : Guide) (content : Key → Option Content) (o : Other) (ids : H
       → AllByRecursion (IsNamed guide) (map remote_entry ss)
   remotes_named [] sound can = tt
   remotes_named (s ∷ ss) sound can =
-      (record { small = record { bodies = All-nil FitsDescriptor; room = omega arith }; service = omega (arith, sound.0.service.1); within = can.0.within; kept = can.0.kept }, remotes_named ss sound.1 can.1)
+      (record { small = small_remote s sound.0; service = omega (arith, sound.0.service.1); within = can.0.within; kept = can.0.kept }, remotes_named ss sound.1 can.1)
 
   services_are : SdtReadsBack → IsGuideWithin guide → HasOther guide content o → remote_services content sdt ≡ map (part_shown guide) o.services
   services_are back within has =
@@ -130,14 +129,14 @@ module _ (guide : Guide) (content : Key → Option Content) (o : Other) (ids : H
 abbrev other_with : Other → Option Cable → List RawDesc → List ScreenRemote → ScreenOther
 other_with o cable further services = record { stream = o.stream; original = o.original; cable = cable; descriptors = further; services = services }
 
--- the entry of a stream has no further descriptors
-abbrev NoneFurther : List NitStream → Other → Type 0
-NoneFurther streams o = descriptors_in o.stream o.original streams ≡ []
+-- the entry of a stream has its further descriptors
+abbrev HasFurther : List NitStream → Other → Type 0
+HasFurther streams o = descriptors_in o.stream o.original streams ≡ o.descriptors
 
-other_is : SdtReadsBack → (guide : Guide) → IsGuideWithin guide → (content : Key → Option Content) (streams : List NitStream) (o : Other) → NoneFurther streams o → HasOther guide content o
+other_is : SdtReadsBack → (guide : Guide) → IsGuideWithin guide → (content : Key → Option Content) (streams : List NitStream) (o : Other) → HasFurther streams o → HasOther guide content o
     → cable_in o.stream o.original streams ≡ o.cable → other_stream content streams (other_sdt_key o) ≡ other_shown guide o
-other_is back guide within content streams o none has cable =
-    (λ i. other_with o (cable i) (none i) (services_are guide content o has.ids back within has i))
+other_is back guide within content streams o further has cable =
+    (λ i. other_with o (cable i) (further i) (services_are guide content o has.ids back within has i))
 
 -- ---- all of them
 
@@ -153,12 +152,12 @@ others_stay mux os apart =
     turned : (a b c d : ℕ) → (a == c && b == d) ≡ false → (c == a && d == b) ≡ false
     turned a b c d e = grind (arith, nat_tests)
 
-others_each : SdtReadsBack → (guide : Guide) → IsGuideWithin guide → (content : Key → Option Content) (streams : List NitStream) (os : List Other) → AllByRecursion (NoneFurther streams) os → AllByRecursion (HasOther guide content) os
+others_each : SdtReadsBack → (guide : Guide) → IsGuideWithin guide → (content : Key → Option Content) (streams : List NitStream) (os : List Other) → AllByRecursion (HasFurther streams) os → AllByRecursion (HasOther guide content) os
     → AllByRecursion (λ (o : Other). cable_in o.stream o.original streams ≡ o.cable) os → map (other_stream content streams) (map other_sdt_key os) ≡ map (other_shown guide) os
-others_each back guide within content streams [] none has cables = refl
-others_each back guide within content streams (o ∷ os) none has cables =
-    ap₂ (λ (x : ScreenOther) (l : List ScreenOther). x ∷ l) (other_is back guide within content streams o none.0 has.0 cables.0)
-    (others_each back guide within content streams os none.1 has.1 cables.1)
+others_each back guide within content streams [] further has cables = refl
+others_each back guide within content streams (o ∷ os) further has cables =
+    ap₂ (λ (x : ScreenOther) (l : List ScreenOther). x ∷ l) (other_is back guide within content streams o further.0 has.0 cables.0)
+    (others_each back guide within content streams os further.1 has.1 cables.1)
 
 -- the entry of the multiplex itself is passed over
 cables_found : (mux : Mux) (os all : List Other) → AllByRecursion (λ (o : Other). has_stream_ids mux.stream mux.original o ≡ false) os
@@ -170,12 +169,12 @@ cables_found mux (o ∷ os) all apart said = (
   cables_found mux os all apart.1 said.1,
 )
 
-further_none : (mux : Mux) (os all : List Other) → AllByRecursion (λ (o : Other). has_stream_ids mux.stream mux.original o ≡ false) os
-    → AllByRecursion (NoneFurther (stream_of mux ∷ map stream_sent all)) os
-further_none mux [] all apart = tt
-further_none mux (o ∷ os) all apart = (
-  ap (λ (b : Bool). if b then mux.stream_descriptors else descriptors_in o.stream o.original (map stream_sent all)) apart.0 ∙ none_further all o.stream o.original,
-  further_none mux os all apart.1,
+further_found : (mux : Mux) (os all : List Other) → AllByRecursion (λ (o : Other). has_stream_ids mux.stream mux.original o ≡ false) os
+    → AllByRecursion (HasFurther (map stream_sent all)) os → AllByRecursion (HasFurther (stream_of mux ∷ map stream_sent all)) os
+further_found mux [] all apart said = tt
+further_found mux (o ∷ os) all apart said = (
+  ap (λ (b : Bool). if b then mux.stream_descriptors else descriptors_in o.stream o.original (map stream_sent all)) apart.0 ∙ said.0,
+  further_found mux os all apart.1 said.1,
 )
 
 pub others_are : SdtReadsBack → (mux : Mux) → IsSoundWithIds mux → (guide : Guide) → IsGuideWithin guide → (content : Key → Option Content) → AllByRecursion (HasOther guide content) mux.others
@@ -183,5 +182,5 @@ pub others_are : SdtReadsBack → (mux : Mux) → IsSoundWithIds mux → (guide 
 others_are back mux sound guide within content has =
     let streams : List NitStream = stream_of mux ∷ map stream_sent mux.others in
     ap (map (other_stream content streams)) (others_stay mux mux.others sound.sound.others.apart)
-    ∙ others_each back guide within content streams mux.others (further_none mux mux.others mux.others sound.sound.others.apart) has
+    ∙ others_each back guide within content streams mux.others (further_found mux mux.others mux.others sound.sound.others.apart (further_said mux.others sound.sound.others.ascend)) has
     (cables_found mux mux.others mux.others sound.sound.others.apart (cables_said mux.others sound.sound.others.ascend))

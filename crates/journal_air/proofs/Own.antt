@@ -1,13 +1,11 @@
 -- What the tables of a multiplex say: its PAT, its PMTs, its NIT, its SDT and those of other streams.
-use Rattle.std.proofs.Common.{◌≡◌, ℕ, ◌+◌, ◌<◌, List, [], ◌∷◌, ◌++◌, Bool, true, false, Option, Some, map, refl, sym, ap, ap₂, ◌∙◌, subst, arith}
+use Rattle.std.proofs.Common.{◌≡◌, ℕ, ◌+◌, ◌<◌, ◌≤◌, List, [], ◌∷◌, ◌++◌, Bool, true, false, Option, Some, length, map, sum_by, refl, sym, ap, ap₂, ◌∙◌, subst, arith}
 use Rattle.std.specs.Prelude.{flat_map, if◌then◌else◌, ◌==◌, ◌&&◌, ◌||◌, nat_lt, unwrap_or, option_map}
 use Rattle.std.specs.List.{AllByRecursion}
 use Rattle.std.proofs.lemmas.Bool.Decides.{nat_tests}
-use Rattle.std.proofs.lemmas.List.Elements.{recursion_from_All}
 use Rattle.si_lists.proofs.Lists.{all_map, all_through, all_to_map, all_two, all_front, all_behind}
 use Rattle.guide_model.specs.Decoding.{IsKept}
 use Rattle.guide_model.proofs.RoundTrip.{decoded-coded}
-use Rattle.guide_model.specs.declared.descriptor.RawDesc.{RawDesc}
 use Rattle.guide_model.specs.declared.guide.Guide.{Guide}
 use Rattle.guide_model.specs.declared.guide.ServiceGuide.{ServiceGuide}
 use Rattle.mux_model.specs.declared.mux.MuxService.{MuxService}
@@ -17,24 +15,28 @@ use Rattle.mux_model.specs.declared.mux.Mux.{Mux}
 use Rattle.mux_model.specs.Order.{DoCome}
 use Rattle.mux_model.specs.Sound.{IsSound, IsSoundService, DoAscend, IsSoundRemote, IsSoundOther, has_lower_id, comes_before, HasStreamIds, IsSoundWithIds}
 use Rattle.guide_limits.specs.Limits.{IsServiceWithin, IsGuideWithin}
-use Rattle.si_lists.specs.Runs.{longest_runs}
-use Rattle.si_lists.proofs.RunFacts.{are_longest}
+use Rattle.si_lists.specs.Runs.{AreLongestRuns, longest_runs}
+use Rattle.si_lists.proofs.RunFacts.{are_longest, runs_some}
 use Rattle.table_bodies.specs.Pat.{pat_in, pat_body, FitsProgram}
 use Rattle.table_bodies.specs.Pmt.{pmt_body, pmt_in, shown_pmt}
 use Rattle.table_bodies.proofs.Programs.{pat-reads_back, pmt-reads_back}
 use Rattle.publication.specs.declared.sdt.ServiceEntry.{ServiceEntry}
+use Rattle.table_bodies.specs.declared.nit.Nit.{Nit}
+use Rattle.table_bodies.specs.declared.nit.NitStream.{NitStream}
 use Rattle.table_bodies.specs.declared.sdt.SdtService.{SdtService}
 use Rattle.table_bodies.specs.declared.sdt.Sdt.{Sdt}
-use Rattle.table_bodies.specs.Nit.{nit_body, nit_in, FitsStream, HasStreamWidths, NitReadsBack}
+use Rattle.table_bodies.specs.Nit.{nit_in, stream_size, FitsStream, HasStreamWidths, NitReadsBack}
 use Rattle.table_bodies.specs.Sdt.{sdt_in, HasServiceWidths, SdtReadsBack}
-use Rattle.guide_screen.specs.Reading.{services_in}
+use Rattle.guide_screen.specs.Reading.{services_in, streams_in, value_in}
 use Rattle.guide_screen.specs.Needs.{with_service, by_service}
 use Rattle.guide_screen.specs.Screen.{pid_in, cable_in, descriptors_in}
 use Rattle.publication.specs.Programs.{program_entry, pat_of, pmt_of}
-use Rattle.publication.specs.Network.{nit_of, kind_of, remote_kind, other_stream}
+use Rattle.publication.specs.Network.{nit_of, nit_section, nit_sections, kind_of, remote_kind, other_stream, streams_of, streams_room}
 use Rattle.publication.specs.Parts.{part_of}
-use Rattle.publication.specs.Sdt.{HasSmallDescriptors, entry_of, own_entries, remote_entries, remote_entry, named_service, sdt_services, service_size, section_body, numbered, sdt_sections}
-use Rattle.publication.proofs.ProgramFacts.{network_fits, no_cable, pmt_fits, streams_fit, streams_short}
+use Rattle.publication.specs.Sdt.{HasSmallDescriptors, entry_of, own_entries, remote_entries, remote_entry, named_service, sdt_services, service_size, section_body, sdt_sections}
+use Rattle.publication.specs.Sections.{numbered}
+use Rattle.publication.proofs.ProgramFacts.{pmt_fits}
+use Rattle.publication.proofs.NetworkFacts.{network_fits, no_cable, streams_fit, streams_sized}
 use Rattle.publication.proofs.SdtFacts.{service_fits, services_fit}
 
 -- ---- programs
@@ -70,23 +72,18 @@ pids_said (s ∷ ss) up = (
 
 -- ---- the network
 
-pub nit_said : NitReadsBack → (mux : Mux) → IsSoundWithIds mux → IsKept mux.network_name → nit_in (nit_body (nit_of mux)) ≡ Some (nit_of mux)
-nit_said back mux sound kept =
-    back (nit_of mux) (record {
-      room = network_fits mux sound.sound;
-      shown = decoded-coded mux.network_name kept;
-      streams = (
-        record {
-          stream = sound.stream;
-          original = sound.original;
-          services = kinds_fit mux.services sound.sound.services;
-          fits = fits.0;
-          no_cable = no_cable mux.stream_descriptors sound.sound.stream_descriptors;
-        },
-        others_fit mux.others sound.others sound.sound.others.each fits.1,
-      );
-      within = omega (arith, streams_short mux sound.sound);
-    })
+-- the entry of each stream has fields that fit, and no further descriptor that is read as its cable
+streams_wide : (mux : Mux) → IsSoundWithIds mux → AllByRecursion HasStreamWidths (streams_of mux)
+streams_wide mux sound = (
+  record {
+    stream = sound.stream;
+    original = sound.original;
+    services = kinds_fit mux.services sound.sound.services;
+    fits = fits.0;
+    no_cable = no_cable mux.stream_descriptors sound.sound.stream_descriptors;
+  },
+  others_fit mux.others sound.others sound.sound.others.each fits.1,
+)
   where
     kinds_fit : (ss : List MuxService) → AllByRecursion IsSoundService ss → AllByRecursion (λ k. k.service < 65536) (map kind_of ss)
     kinds_fit [] all = tt
@@ -96,13 +93,70 @@ nit_said back mux sound kept =
     remotes_fit [] all = tt
     remotes_fit (s ∷ ss) all = (omega (arith, all.0.service.1), remotes_fit ss all.1)
 
-    fits : AllByRecursion FitsStream (nit_of mux).streams
-    fits = recursion_from_All FitsStream (nit_of mux).streams (streams_fit mux sound.sound)
+    fits : AllByRecursion FitsStream (streams_of mux)
+    fits = streams_fit mux sound.sound
 
     others_fit : (os : List Other) → AllByRecursion HasStreamIds os → AllByRecursion IsSoundOther os → AllByRecursion FitsStream (map other_stream os) → AllByRecursion HasStreamWidths (map other_stream os)
     others_fit [] ids sound fit = tt
-    others_fit (o ∷ os) ids sound fit =
-        (record { stream = ids.0.stream; original = ids.0.original; services = remotes_fit o.services sound.0.services; fits = fit.0; no_cable = tt }, others_fit os ids.1 sound.1 fit.1)
+    others_fit (o ∷ os) ids sound fit = (
+      record {
+        stream = ids.0.stream;
+        original = ids.0.original;
+        services = remotes_fit o.services sound.0.services;
+        fits = fit.0;
+        no_cable = no_cable o.descriptors sound.0.descriptors;
+      },
+      others_fit os ids.1 sound.1 fit.1,
+    )
+
+-- what holds of things in runs holds of each run
+in_runs : {X : Type 0} (P : X → Type 0) (runs : List (List X)) → AllByRecursion P (flat_map (λ (run : List X). run) runs) → AllByRecursion (AllByRecursion P) runs
+in_runs P [] all = tt
+in_runs P (run ∷ runs) all =
+    (all_front P run (flat_map (λ r. r) runs) all, in_runs P runs (all_behind P run (flat_map (λ r. r) runs) all))
+
+module _ (back : NitReadsBack) (mux : Mux) (sound : IsSoundWithIds mux) (kept : IsKept mux.network_name) where
+  -- a section says the network and its streams
+  section_said : (run : List NitStream) → AllByRecursion HasStreamWidths run → sum_by stream_size run ≤ streams_room mux → nit_in (nit_section mux run) ≡ Some (nit_of mux run)
+  section_said run wide few =
+      back (nit_of mux run) (record {
+        room = network_fits mux run sound.sound;
+        shown = decoded-coded mux.network_name kept;
+        streams = wide;
+        within = omega (arith, few);
+      })
+
+  abbrev Fit : List NitStream → Type 0
+  Fit run = sum_by stream_size run ≤ streams_room mux
+
+  runs_said : (n : ℕ) (runs : List (List NitStream)) → AllByRecursion (AllByRecursion HasStreamWidths) runs → AllByRecursion Fit runs
+      → streams_in (numbered n (map (nit_section mux) runs)) ≡ flat_map (λ (run : List NitStream). run) runs
+  runs_said n [] wide fit = refl
+  runs_said n (run ∷ runs) wide fit =
+      ap₂ (λ (o : Option Nit) (l : List NitStream). unwrap_or (option_map (λ (x : Nit). x.streams) o) [] ++ l) (section_said run wide.0 fit.0)
+      (runs_said (1 + n) runs wide.1 fit.1)
+
+  first_said : (runs : List (List NitStream)) → 0 < length runs → AllByRecursion (AllByRecursion HasStreamWidths) runs → AllByRecursion Fit runs
+      → (run : List NitStream) × (value_in nit_in 0 (numbered 0 (map (nit_section mux) runs)) ≡ Some (nit_of mux run))
+  first_said [] some wide fit = absurd (omega (arith, some))
+  first_said (run ∷ runs) some wide fit = (run, section_said run wide.0 fit.0)
+
+  longest : AreLongestRuns stream_size (streams_room mux) (streams_of mux) (longest_runs stream_size (streams_room mux) (streams_of mux))
+  longest = are_longest stream_size (streams_room mux) (streams_of mux) (streams_sized mux sound.sound)
+
+  wide_runs : AllByRecursion (AllByRecursion HasStreamWidths) (longest_runs stream_size (streams_room mux) (streams_of mux))
+  wide_runs =
+      in_runs HasStreamWidths (longest_runs stream_size (streams_room mux) (streams_of mux))
+      (subst (AllByRecursion HasStreamWidths) (sym longest.join) (streams_wide mux sound))
+
+  -- all sections together say all streams
+  pub nit_said : streams_in (nit_sections mux) ≡ streams_of mux
+  nit_said = runs_said 0 (longest_runs stream_size (streams_room mux) (streams_of mux)) wide_runs longest.fit ∙ longest.join
+
+  -- section 0 says the network, whatever its streams
+  pub network_said : (run : List NitStream) × (value_in nit_in 0 (nit_sections mux) ≡ Some (nit_of mux run))
+  network_said =
+      first_said (longest_runs stream_size (streams_room mux) (streams_of mux)) (runs_some stream_size (streams_room mux) (streams_of mux)) wide_runs longest.fit
 
 -- ---- services
 
@@ -125,12 +179,6 @@ named_wide guide s named =
       fits = service_fits s g named.within named.small;
       shown = record { provider = decoded-coded g.provider named.kept.0; name = decoded-coded g.name named.kept.1 };
     }
-
--- what holds of things in runs holds of each run
-in_runs : {X : Type 0} (P : X → Type 0) (runs : List (List X)) → AllByRecursion P (flat_map (λ (run : List X). run) runs) → AllByRecursion (AllByRecursion P) runs
-in_runs P [] all = tt
-in_runs P (run ∷ runs) all =
-    (all_front P run (flat_map (λ r. r) runs) all, in_runs P runs (all_behind P run (flat_map (λ r. r) runs) all))
 
 sections_said : SdtReadsBack → (original : ℕ) → original < 65536 → (n : ℕ) (runs : List (List SdtService)) → AllByRecursion (AllByRecursion HasServiceWidths) runs
     → services_in (numbered n (map (section_body original) runs)) ≡ flat_map (λ (run : List SdtService). run) runs
@@ -195,28 +243,29 @@ remote_in_order guide other up = in_order (sdt_services guide (remote_entries ot
 
 -- ---- how streams are sent
 
--- the entry of each other stream is found by its ids
+own_ids : (a b : ℕ) → (a == a && b == b) ≡ true
+own_ids a b = grind (arith, nat_tests)
+
+later_ids : (a b c d : ℕ) → (nat_lt a c || (a == c && nat_lt b d)) ≡ true → (a == c && b == d) ≡ false
+later_ids a b c d before = grind (arith, nat_tests)
+
+-- the entry of each other stream is found by its ids, and so are its further descriptors
 pub cables_said : (os : List Other) → DoCome comes_before os → AllByRecursion (λ (o : Other). cable_in o.stream o.original (map other_stream os) ≡ o.cable) os
 cables_said [] up = tt
 cables_said (o ∷ os) up = (
-  ap (λ (b : Bool). if b then o.cable else cable_in o.stream o.original (map other_stream os)) (own o.stream o.original),
+  ap (λ (b : Bool). if b then o.cable else cable_in o.stream o.original (map other_stream os)) (own_ids o.stream o.original),
   all_two (λ (p : Other). comes_before o p ≡ true) (λ (p : Other). cable_in p.stream p.original (map other_stream os) ≡ p.cable)
       (λ (p : Other). cable_in p.stream p.original (map other_stream (o ∷ os)) ≡ p.cable)
-      (λ p before said. ap (λ (b : Bool). if b then o.cable else cable_in p.stream p.original (map other_stream os)) (later o.stream o.original p.stream p.original before) ∙ said)
+      (λ p before said. ap (λ (b : Bool). if b then o.cable else cable_in p.stream p.original (map other_stream os)) (later_ids o.stream o.original p.stream p.original before) ∙ said)
       os up.0 (cables_said os up.1),
 )
-  where
-    own : (a b : ℕ) → (a == a && b == b) ≡ true
-    own a b = grind (arith, nat_tests)
 
-    later : (a b c d : ℕ) → (nat_lt a c || (a == c && nat_lt b d)) ≡ true → (a == c && b == d) ≡ false
-    later a b c d before = grind (arith, nat_tests)
-
--- no entry of another stream has further descriptors
-pub none_further : (os : List Other) (a b : ℕ) → descriptors_in a b (map other_stream os) ≡ []
-none_further [] a b = refl
-none_further (o ∷ os) a b = either (o.stream == a && o.original == b) (descriptors_in a b (map other_stream os)) (none_further os a b)
-  where
-    either : (is : Bool) (ds : List RawDesc) → ds ≡ [] → (if is then [] else ds) ≡ []
-    either true ds none = refl
-    either false ds none = none
+pub further_said : (os : List Other) → DoCome comes_before os → AllByRecursion (λ (o : Other). descriptors_in o.stream o.original (map other_stream os) ≡ o.descriptors) os
+further_said [] up = tt
+further_said (o ∷ os) up = (
+  ap (λ (b : Bool). if b then o.descriptors else descriptors_in o.stream o.original (map other_stream os)) (own_ids o.stream o.original),
+  all_two (λ (p : Other). comes_before o p ≡ true) (λ (p : Other). descriptors_in p.stream p.original (map other_stream os) ≡ p.descriptors)
+      (λ (p : Other). descriptors_in p.stream p.original (map other_stream (o ∷ os)) ≡ p.descriptors)
+      (λ p before said. ap (λ (b : Bool). if b then o.descriptors else descriptors_in p.stream p.original (map other_stream os)) (later_ids o.stream o.original p.stream p.original before) ∙ said)
+      os up.0 (further_said os up.1),
+)

@@ -32,7 +32,7 @@ use Rattle.table_bodies.specs.declared.nit.Nit.{Nit}
 use Rattle.table_bodies.specs.declared.nit.NitStream.{NitStream}
 use Rattle.table_bodies.specs.declared.sdt.SdtService.{SdtService}
 use Rattle.table_bodies.specs.Pmt.{pmt_in, shown_pmt}
-use Rattle.table_bodies.specs.Nit.{nit_body, nit_in, NitReadsBack}
+use Rattle.table_bodies.specs.Nit.{nit_in, NitReadsBack}
 use Rattle.table_bodies.specs.Sdt.{SdtReadsBack}
 use Rattle.publication.specs.Eit.{own, eit_key}
 use Rattle.publication.specs.EitLaws.{HasTypedEvents}
@@ -46,7 +46,7 @@ use Rattle.guide_screen.specs.View.{View, sections, sections_at, sdt_behind, sdt
 use Rattle.guide_screen.specs.Reading.{programs_in, services_in, streams_in, value_in}
 use Rattle.guide_screen.specs.Needs.{Want, by_service, last_table, needs, programs_of, schedule_tables, services_of, tables_to, unless, unmet_of, want_pmt, want_service, want_services, want_table, wants}
 use Rattle.guide_screen.specs.Screen.{cable_in, descriptors_in, event_at, heard_by, heard_of, network_descriptors, network_name, other_streams, pid_in, pmt_of, pmt_pid, schedule_of, screen, screen_service}
-use Rattle.publication.specs.Network.{other_stream as stream_sent, nit_key, nit_of, nit_table}
+use Rattle.publication.specs.Network.{other_stream as stream_sent, nit_key, nit_of, nit_sections, nit_table, streams_of}
 use Rattle.publication.specs.Programs.{network_entry, program_entry, pat_of, pat_key, pat_table, pmt_tables}
 use Rattle.publication.specs.Programs as programs
 use Rattle.publication.specs.Laws.{HasPartsOf}
@@ -58,7 +58,7 @@ use Rattle.publication.proofs.PartFacts.{part_id, of_parts, of_remote, others_ha
 use Rattle.journal_air.specs.Screen.{now_shown, next_shown, service_shown, services_shown, screen_of}
 use Rattle.journal_air.specs.PublicationScreenShown.{HasPublication, HasKeptNames}
 use Rattle.journal_air.specs.PublicationScreenLaws.{PublicationIsShown}
-use Rattle.journal_air.proofs.Own.{IsNamed, pat_said, pmt_said, pids_said, nit_said, sdt_said, own_in_order}
+use Rattle.journal_air.proofs.Own.{IsNamed, pat_said, pmt_said, pids_said, network_said, nit_said, sdt_said, own_in_order}
 use Rattle.journal_air.proofs.Events.{HasIds}
 use Rattle.journal_air.proofs.Schedules.{AreSentAt, HasTable, has_tables}
 use Rattle.journal_air.proofs.Held.{Held, CanBeShown, parts_can_be_shown, HasEvents, present_is, now_is, next_is, last_told, events_are}
@@ -355,23 +355,21 @@ module _ (nit_back : NitReadsBack) (sdt_back : SdtReadsBack) (mux : Mux) (guide 
 
   -- ---- the screen
 
-  nit_is : nit_in (nit_body (nit_of mux)) ≡ Some (nit_of mux)
-  nit_is = nit_said nit_back mux sound kept.network
+  network_is : (run : List NitStream) × (value_in nit_in 0 (nit_sections mux) ≡ Some (nit_of mux run))
+  network_is = network_said nit_back mux sound kept.network
 
   name_is : network_name (sections (V.content (nit_key mux))) ≡ Text mux.network_name
   name_is =
       ap (λ (o : Option Content). network_name (sections o)) tables_have.0
-      ∙ ap (λ (o : Option Nit). unwrap_or (option_map (λ (nit : Nit). nit.name) o) (Text [])) nit_is
+      ∙ ap (λ (o : Option Nit). unwrap_or (option_map (λ (nit : Nit). nit.name) o) (Text [])) network_is.1
 
   network_further : network_descriptors (sections (V.content (nit_key mux))) ≡ mux.network_descriptors
   network_further =
       ap (λ (o : Option Content). network_descriptors (sections o)) tables_have.0
-      ∙ ap (λ (o : Option Nit). unwrap_or (option_map (λ (nit : Nit). nit.descriptors) o) []) nit_is
+      ∙ ap (λ (o : Option Nit). unwrap_or (option_map (λ (nit : Nit). nit.descriptors) o) []) network_is.1
 
-  streams_are : streams_in (sections (V.content (nit_key mux))) ≡ (nit_of mux).streams
-  streams_are =
-      ap (λ (o : Option Content). streams_in (sections o)) tables_have.0
-      ∙ ap (λ (o : Option Nit). unwrap_or (option_map (λ (nit : Nit). nit.streams) o) [] ++ []) nit_is ∙ append-nil (nit_of mux).streams
+  streams_are : streams_in (sections (V.content (nit_key mux))) ≡ streams_of mux
+  streams_are = ap (λ (o : Option Content). streams_in (sections o)) tables_have.0 ∙ nit_said nit_back mux sound kept.network
 
   own_first : (a b : ℕ) → (a == a && b == b) ≡ true
   own_first a b = grind (arith, nat_tests)

@@ -59,7 +59,7 @@ no_others = refl
 
 -- ---- another stream
 
--- stream 3 of network 4 has a service, stream 5 of network 4 has none
+-- stream 3 of network 4 has a service, stream 5 of network 4 has none; the first has a further descriptor, and so has its service
 abbrev film : RemoteService
 film = record {
   service = 90;
@@ -67,13 +67,14 @@ film = record {
   kind = 25;
   provider = codes "Second";
   name = codes "Second";
+  descriptors = record { tag = 0x73; body = [] } ∷ [];
 }
 
 abbrev third : Other
-third = record { stream = 3; original = 4; cable = None; services = film ∷ [] }
+third = record { stream = 3; original = 4; cable = None; services = film ∷ []; descriptors = record { tag = 0x5F; body = 0 ∷ 0 ∷ 0 ∷ 0x28 ∷ [] } ∷ [] }
 
 abbrev fifth : Other
-fifth = record { stream = 5; original = 4; cable = None; services = [] }
+fifth = record { stream = 5; original = 4; cable = None; services = []; descriptors = [] }
 
 abbrev wide : Mux
 wide = record {
@@ -108,13 +109,13 @@ others_are : (screen_of wide both 129605).others ≡ record {
   stream = 3;
   original = 4;
   cable = None;
-  descriptors = [];
+  descriptors = record { tag = 0x5F; body = 0 ∷ 0 ∷ 0 ∷ 0x28 ∷ [] } ∷ [];
   services = record {
     service = 90;
     kind = 25;
     provider = Text (codes "Far");
     name = Text (codes "Far Films");
-    descriptors = [];
+    descriptors = record { tag = 0x73; body = [] } ∷ [];
     now = None;
     next = Some (shown 8 133200);
     events = shown 7 127800 ∷ shown 8 133200 ∷ [];

@@ -1,4 +1,4 @@
--- What a receiver shows of a publication. The further descriptors are those of the multiplex and of its events; other streams have none.
+-- What a receiver shows of a publication. The further descriptors are those of the multiplex and of its events.
 use Rattle.std.specs.Prelude.{ℕ, ◌+◌, ◌*◌, Bool, ◌&&◌, nat_le, nat_lt, List, [], ◌∷◌, map, filter, Option, Some, None}
 use Rattle.guide_model.specs.declared.shown.Shown.TheVariants.{Text}
 use Rattle.guide_model.specs.declared.event.Event.{Event}
@@ -71,14 +71,14 @@ services_shown mux guide = map (own_shown guide) mux.services
 
 -- ---- other streams
 
--- a service of another stream: its numbers are the multiplex's, its names and events the guide's
+-- a service of another stream: its numbers and further descriptors are the multiplex's, its names and events the guide's
 abbrev pub remote_shown : ℕ → RemoteService → ServiceGuide → ScreenRemote
 remote_shown moment service guide = record {
   service = service.service;
   kind = service.kind;
   provider = Text guide.provider;
   name = Text guide.name;
-  descriptors = [];
+  descriptors = service.descriptors;
   now = now_shown moment guide;
   next = next_shown moment guide;
   events = events_shown moment guide;
@@ -88,13 +88,13 @@ remote_shown moment service guide = record {
 abbrev pub part_shown : Guide → RemoteService → ScreenRemote
 part_shown guide service = remote_shown guide.moment.0 service (part_of guide service.service)
 
--- another stream with its services, by ascending id
+-- another stream with its further descriptors and its services, by ascending id
 abbrev pub other_shown : Guide → Other → ScreenOther
 other_shown guide other = record {
   stream = other.stream;
   original = other.original;
   cable = other.cable;
-  descriptors = [];
+  descriptors = other.descriptors;
   services = map (part_shown guide) other.services;
 }
 

@@ -15,12 +15,15 @@ use Rattle.mux_model.specs.declared.mux.Other.{Other}
 use Rattle.mux_model.specs.Order.{DoCome, all_placed, placed}
 use Rattle.mux_model.specs.Sound.{AreSoundOthers, HasSoundCable, HasStreamIds, IsSoundOther, IsSoundRemote, comes_before, has_lower_id, has_stream_ids, remote_services}
 use Rattle.mux_model.proofs.Placing.{all_in_place, all_with, come_with, length_placed, placed_more}
+use Rattle.mux_lines.specs.declared.record.Place.TheVariants.{InOther, InService}
 use Rattle.mux_lines.specs.declared.record.Record.{Record}
 use Rattle.mux_lines.specs.declared.record.Record.TheVariants.{Stream, Elsewhere, Remote}
 use Rattle.mux_lines.specs.declared.record.Numbered.{Numbered}
-use Rattle.mux_config.specs.Descriptions.{all_of, first, first_line, has_any_id, has_ids, has_no_place, is_other, is_stream, mux_with, numbered, other_in, others_of, remote_in, remote_of, repeated_at, said, service_in, services_of, sorted, stream_in, with_parts, with_remotes}
+use Rattle.mux_config.specs.Descriptions.{all_of, first, first_line, has_any_id, has_ids, has_no_place, is_other, is_stream, mux_with, numbered, other_in, others_of, remote_in, remote_of, repeated_at, said, service_in, services_of, sorted, stream_in, with_own, with_parts, with_remotes}
 use Rattle.mux_lines.specs.Fine.{IsFine, IsFineRemote}
-use Rattle.mux_config.proofs.FineRecords.{AreFineOthers, IsAlone, others_in, remotes_in}
+use Rattle.mux_config.proofs.FineRecords.{AreFineOthers, AreInRooms, IsAlone, others_in, remotes_in}
+use Rattle.mux_config.proofs.FurtherFacts.{sound_at}
+use Rattle.mux_config.proofs.TakenFacts.{service_room}
 use Rattle.mux_config.proofs.RecordFacts.{all_kept, all_more, differs, first_not, none_pass, or_false_right, said_all}
 use Rattle.mux_config.proofs.Tallies.{different_of, tally, tally_append, tally_each, tally_either, tally_map, tally_of_each, tally_remotes, tally_sorted}
 
@@ -81,7 +84,7 @@ turned a b c d h = elim (cases_Bool (c == a && d == b)) [
 
 other_said : (s o : ℕ) (r : Record) (p : Other) → has_ids s o r ≡ false → other_in r ≡ Some p → has_stream_ids s o p ≡ false
 other_said s o (Elsewhere a b cable) p h e =
-    let new : Other = record { stream = a; original = b; cable = cable; services = [] } in
+    let new : Other = record { stream = a; original = b; cable = cable; services = []; descriptors = [] } in
     let same : new ≡ p = cc e in
     subst (λ (q : Other). has_stream_ids s o q ≡ false) same (turned a b s o h)
 other_said s o other p h e = cc e
@@ -117,7 +120,7 @@ pub others_more : (rs : List Numbered) (line s o : ℕ) (cable : Option Cable) �
     → AreFineOthers (rs ++ numbered line (Elsewhere s o cable) ∷ [])
 others_more rs line s o cable f place once =
     let r = numbered line (Elsewhere s o cable) in
-    let new : Other = record { stream = s; original = o; cable = cable; services = [] } in
+    let new : Other = record { stream = s; original = o; cable = cable; services = []; descriptors = [] } in
     let all : all_of other_in (rs ++ r ∷ []) ≡ all_of other_in rs ++ new ∷ [] = all_more other_in rs r in
     let same : others_in (rs ++ r ∷ []) ≡ placed comes_before new (others_in rs) = ap (λ (l : List Other). all_placed comes_before l []) all ∙ placed_more comes_before (all_of other_in rs) [] new in
     let room : length (all_of other_in rs) < 15 = fewer (length (all_of other_in rs)) place in
@@ -192,7 +195,7 @@ remotes_more rs line s o service f place once =
 
 cable_said : (r : Record) (o : Other) → IsFine r → other_in r ≡ Some o → HasSoundCable o.cable
 cable_said (Elsewhere a b cable) o h e =
-    let new : Other = record { stream = a; original = b; cable = cable; services = [] } in
+    let new : Other = record { stream = a; original = b; cable = cable; services = []; descriptors = [] } in
     let same : new ≡ o = cc e in
     subst (λ (p : Other). HasSoundCable p.cable) same h.1
 cable_said other o h e = cc e
@@ -210,7 +213,7 @@ fine_cables rs each =
 
 ids_said : (r : Record) (o : Other) → IsFine r → other_in r ≡ Some o → HasStreamIds o
 ids_said (Elsewhere stream original cable) o h e =
-    let new : Other = record { stream = stream; original = original; cable = cable; services = [] } in
+    let new : Other = record { stream = stream; original = original; cable = cable; services = []; descriptors = [] } in
     let same : new ≡ o = cc e in
     subst HasStreamIds same (record { stream = h.0.0; original = h.0.1 })
 ids_said other o h e = cc e
@@ -221,13 +224,29 @@ fine_ids rs each =
     all_through HasStreamIds HasStreamIds (with_remotes rs) (λ o h. record { stream = h.stream; original = h.original }) (others_in rs)
     (all_in_place HasStreamIds comes_before (all_of other_in rs) [] (said_all other_in HasStreamIds IsFine ids_said rs each) tt)
 
-sound_each : (rs : List Numbered) → AllByRecursion (λ (r : Numbered). IsFine r.says) rs → AreFineOthers rs → AllByRecursion IsSoundOther (others_of rs)
-sound_each rs each f =
+-- a service with its further descriptors
+sound_own : (rs : List Numbered) → AllByRecursion (λ (r : Numbered). IsFine r.says) rs → AreInRooms rs → (s : RemoteService) → IsFineRemote s → IsSoundRemote (with_own rs s)
+sound_own rs each rooms s h = record {
+  service = h.0.service;
+  feed = h.0.feed;
+  provider = h.0.provider;
+  name = h.0.name;
+  descriptors = sound_at (InService s.service) rs each;
+  room = (let most = rooms.service s.service in omega (arith, most, service_room s.service rs));
+}
+
+own_ascends : (rs : List Numbered) (ss : List RemoteService) → DoCome has_lower_id ss → DoCome has_lower_id (map (with_own rs) ss)
+own_ascends rs [] h = tt
+own_ascends rs (s ∷ ss) h = (all_to_map (λ (t : RemoteService). has_lower_id s t ≡ true) (with_own rs) ss h.0, own_ascends rs ss h.1)
+
+sound_each : (rs : List Numbered) → AllByRecursion (λ (r : Numbered). IsFine r.says) rs → AreFineOthers rs → AreInRooms rs → AllByRecursion IsSoundOther (others_of rs)
+sound_each rs each f rooms =
     all_through (λ (o : Other). HasSoundCable o.cable) IsSoundOther (with_remotes rs)
     (λ o h. record {
       cable = h;
-      services = all_map IsFineRemote IsSoundRemote (λ s h. h.0) (remotes_in o.stream o.original rs) (fine_remotes rs o.stream o.original each);
-      ascend = f.remotes_ascend o.stream o.original;
+      services = all_through IsFineRemote IsSoundRemote (with_own rs) (sound_own rs each rooms) (remotes_in o.stream o.original rs) (fine_remotes rs o.stream o.original each);
+      ascend = own_ascends rs (remotes_in o.stream o.original rs) (f.remotes_ascend o.stream o.original);
+      descriptors = sound_at (InOther o.stream o.original) rs each;
     })
     (others_in rs) (fine_cables rs each)
 
@@ -270,10 +289,11 @@ once_each rs f n =
     let most = f.ids n in
     omega (arith, one, two, three, four, five, six, seven, eight, most)
 
-pub sound_others : (rs : List Numbered) (network : ℕ × List ℕ) (stream : ℕ × ℕ) → AllByRecursion (λ (r : Numbered). IsFine r.says) rs → AreFineOthers rs → IsAlone (others_in rs) (Some stream) → AreSoundOthers (mux_with network stream rs)
-sound_others rs network stream each f alone = record {
+pub sound_others : (rs : List Numbered) (network : ℕ × List ℕ) (stream : ℕ × ℕ) → AllByRecursion (λ (r : Numbered). IsFine r.says) rs → AreFineOthers rs → AreInRooms rs → IsAlone (others_in rs) (Some stream)
+    → AreSoundOthers (mux_with network stream rs)
+sound_others rs network stream each f rooms alone = record {
   few = (let a = length-map (others_in rs) (with_remotes rs) in let b = length_placed comes_before (all_of other_in rs) [] in let few = f.few in omega (arith, a, b, few));
-  each = sound_each rs each f;
+  each = sound_each rs each f rooms;
   ascend = each_ascends rs (others_in rs) f.ascend;
   apart = all_to_map (λ (o : Other). has_stream_ids stream.0 stream.1 o ≡ false) (with_remotes rs) (others_in rs) alone;
   few_services = few_services rs f;
@@ -285,5 +305,5 @@ pub kept_names : (rs : List Numbered) → AllByRecursion (λ (r : Numbered). IsF
 kept_names rs each =
     all_flat (λ (o : Other). AllByRecursion (λ (s : RemoteService). IsKept s.provider × IsKept s.name) o.services) (λ (s : RemoteService). IsKept s.provider × IsKept s.name) (λ (o : Other). o.services) (λ o h. h) (others_of rs)
     (all_through (λ (o : Other). HasSoundCable o.cable) (λ (o : Other). AllByRecursion (λ (s : RemoteService). IsKept s.provider × IsKept s.name) o.services) (with_remotes rs)
-    (λ o h. all_map IsFineRemote (λ (s : RemoteService). IsKept s.provider × IsKept s.name) (λ s h. h.1) (remotes_in o.stream o.original rs) (fine_remotes rs o.stream o.original each))
+    (λ o h. all_through IsFineRemote (λ (s : RemoteService). IsKept s.provider × IsKept s.name) (with_own rs) (λ s h. h.1) (remotes_in o.stream o.original rs) (fine_remotes rs o.stream o.original each))
     (others_in rs) (fine_cables rs each))

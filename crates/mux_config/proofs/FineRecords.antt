@@ -10,8 +10,10 @@ use Rattle.mux_model.specs.Order.{DoCome, all_placed}
 use Rattle.mux_model.specs.Rooms.{made_of_component}
 use Rattle.mux_model.specs.Sound.{AreDifferent, DoAscend, AreOfRegions, comes_before, has_lower_id, has_stream_ids, pmt_pids}
 use Rattle.mux_lines.specs.declared.record.Place.TheVariants.{InComponent}
+use Rattle.mux_lines.specs.declared.record.Record.{Record}
+use Rattle.mux_lines.specs.declared.record.Record.TheVariants.{Elsewhere}
 use Rattle.mux_lines.specs.declared.record.Numbered.{Numbered}
-use Rattle.mux_config.specs.Taken.{network_taken, program_taken, service_taken}
+use Rattle.mux_config.specs.Taken.{other_taken, own_taken, program_taken, service_taken}
 use Rattle.mux_config.specs.Descriptions.{all_of, descriptors_at, has_any_id, has_part, local_in, other_in, part_in, remote_in, remote_of, service_in, sorted, stream_in}
 use Rattle.mux_config.proofs.Tallies.{tally}
 use Rattle.mux_lines.specs.Fine.{IsFine}
@@ -48,9 +50,15 @@ pub record AreFineOthers (rs : List Numbered) : Type 0 where
   -- no two records have one service_id
   pub ids : (id : ℕ) → tally (λ (r : Numbered). has_any_id id r.says) rs ≤ 1
 
--- the three rooms
+-- a section of the NIT has room for the entry of this other stream
+abbrev pub HasOtherRoom : List Numbered → Record → Type 0
+HasOtherRoom rs (Elsewhere s o cable) = other_taken s o rs ≤ 1012
+HasOtherRoom rs r = Unit {0}
+
+-- the rooms
 pub record AreInRooms (rs : List Numbered) : Type 0 where
-  pub network : network_taken rs ≤ 1012
+  pub own : own_taken rs ≤ 1012
+  pub others : AllByRecursion (λ (r : Numbered). HasOtherRoom rs r.says) rs
   pub program : (id : ℕ) → program_taken id rs ≤ 1012
   pub service : (id : ℕ) → service_taken id rs ≤ 799
 

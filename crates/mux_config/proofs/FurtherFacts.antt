@@ -15,7 +15,7 @@ use Rattle.guide_model.specs.Descriptors.{AreSoundDescriptors, IsSoundDescriptor
 use Rattle.mux_model.specs.Rooms.{made_of_component}
 use Rattle.mux_lines.specs.Further.{made_in}
 use Rattle.mux_lines.specs.declared.record.Place.{Place}
-use Rattle.mux_lines.specs.declared.record.Place.TheVariants.{InNetwork, InStream, InService, InProgram, InComponent}
+use Rattle.mux_lines.specs.declared.record.Place.TheVariants.{InNetwork, InStream, InOther, InService, InProgram, InComponent}
 use Rattle.mux_lines.specs.declared.record.Record.{Record}
 use Rattle.mux_lines.specs.declared.record.Record.TheVariants.{Part, Further}
 use Rattle.mux_lines.specs.declared.record.Numbered.{Numbered}
@@ -166,6 +166,7 @@ further_more rs line says f fine place once = record { homeless = homeless_more 
 same_made : (a b : Place) → is_same a b ≡ true → made_in a ≡ made_in b
 same_made InNetwork InNetwork e = refl
 same_made InStream InStream e = refl
+same_made (InOther i p) (InOther j q) e = refl
 same_made (InService i) (InService j) e = refl
 same_made (InProgram i) (InProgram j) e = refl
 same_made (InComponent i p) (InComponent j q) e = refl

@@ -18,7 +18,7 @@ use Rattle.mux_model.specs.declared.mux.Other.{Other}
 use Rattle.mux_model.specs.Order.{all_placed}
 use Rattle.mux_model.specs.Sound.{comes_before, has_lower_id}
 use Rattle.mux_model.proofs.Placing.{map_with, placed_more}
-use Rattle.mux_config.specs.Descriptions.{all_of, descriptors_at, insert, other_in, said_at, service_in, sorted, with_parts, with_remotes}
+use Rattle.mux_config.specs.Descriptions.{all_of, descriptors_at, insert, other_in, said_at, service_in, sorted, with_own, with_parts, with_remotes}
 use Rattle.mux_config.specs.Kinds.{put_other, put_remote, put_service}
 use Rattle.mux_config.proofs.RecordFacts.{all_more}
 
@@ -96,16 +96,19 @@ services_next rs i x done next lt e before put =
 
 -- ---- other streams and their services
 
-remotes_put : (xs : List RemoteService) (o : Option RemoteService) → put_remote (all_placed has_lower_id xs []) o ≡ all_placed has_lower_id (xs ++ cons_option o []) []
-remotes_put xs None = ap (λ (l : List RemoteService). all_placed has_lower_id l []) (sym (append-nil xs))
-remotes_put xs (Some s) = sym (placed_more has_lower_id xs [] s)
+remotes_put : (rs : List Numbered) (xs : List RemoteService) (o : Option RemoteService)
+    → put_remote rs (map (with_own rs) (all_placed has_lower_id xs [])) o ≡ map (with_own rs) (all_placed has_lower_id (xs ++ cons_option o []) [])
+remotes_put rs xs None = ap (λ (l : List RemoteService). map (with_own rs) (all_placed has_lower_id l [])) (sym (append-nil xs))
+remotes_put rs xs (Some s) =
+    sym (ap (map (with_own rs)) (placed_more has_lower_id xs [] s) ∙ map_with (with_own rs) has_lower_id has_lower_id (λ a b. refl) s (all_placed has_lower_id xs []))
 
 pub remotes_next : (kind : Record → Option RemoteService) (rs : List Numbered) (i : ℕ) (x : Numbered) (done next : List RemoteService) → i < length rs → x ≡ get_or rs i x
-    → done ≡ all_placed has_lower_id (all_of kind (take i rs)) [] → next ≡ put_remote done (kind x.says) → next ≡ all_placed has_lower_id (all_of kind (take (i + 1) rs)) []
+    → done ≡ map (with_own rs) (all_placed has_lower_id (all_of kind (take i rs)) []) → next ≡ put_remote rs done (kind x.says)
+    → next ≡ map (with_own rs) (all_placed has_lower_id (all_of kind (take (i + 1) rs)) [])
 remotes_next kind rs i x done next lt e before put =
-    put ∙ ap (λ (l : List RemoteService). put_remote l (kind x.says)) before
-    ∙ remotes_put (all_of kind (take i rs)) (kind x.says)
-    ∙ ap (λ (l : List RemoteService). all_placed has_lower_id l []) (sym (all_step kind rs i x lt e))
+    put ∙ ap (λ (l : List RemoteService). put_remote rs l (kind x.says)) before
+    ∙ remotes_put rs (all_of kind (take i rs)) (kind x.says)
+    ∙ ap (λ (l : List RemoteService). map (with_own rs) (all_placed has_lower_id l [])) (sym (all_step kind rs i x lt e))
 
 others_put : (rs : List Numbered) (xs : List Other) (o : Option Other)
     → put_other rs (map (with_remotes rs) (all_placed comes_before xs [])) o ≡ map (with_remotes rs) (all_placed comes_before (xs ++ cons_option o []) [])

@@ -6,7 +6,7 @@ use Rattle.std.specs.Option.{unwrap_or}
 use Rattle.std.proofs.lemmas.Bool.{cases_Bool, eqb-true, leb-true, false≢true}
 use Rattle.std.proofs.lemmas.Bool.Decides.{nat_tests}
 use Rattle.std.proofs.lemmas.List.{length-map}
-use Rattle.si_lists.proofs.Lists.{all_push, all_append, all_map, all_to_map, all_of_map}
+use Rattle.si_lists.proofs.Lists.{all_push, all_append, all_map, all_through, all_to_map, all_of_map}
 use Rattle.guide_model.specs.declared.offset.Offset.{Offset}
 use Rattle.guide_model.specs.declared.stream.Cable.{Cable}
 use Rattle.guide_model.specs.declared.stream.Component.{Component}
@@ -14,7 +14,9 @@ use Rattle.guide_model.specs.Coding.{coded_size}
 use Rattle.guide_model.specs.Decoding.{IsKept}
 use Rattle.mux_model.specs.declared.mux.MuxService.{MuxService}
 use Rattle.mux_model.specs.declared.mux.RemoteService.{RemoteService}
+use Rattle.mux_model.specs.declared.mux.Other.{Other}
 use Rattle.mux_model.specs.declared.mux.Mux.{Mux}
+use Rattle.mux_model.proofs.Placing.{all_in_place}
 use Rattle.mux_lines.specs.declared.record.Place.TheVariants.{InNetwork, InStream, InService, InProgram}
 use Rattle.mux_lines.specs.declared.record.Record.{Record}
 use Rattle.mux_lines.specs.declared.record.Record.TheVariants.{Network, Stream, Delivery, Service, Part, Start, Quota, Rate, Local, Elsewhere, Remote}
@@ -22,15 +24,15 @@ use Rattle.mux_lines.specs.declared.record.Numbered.{Numbered}
 use Rattle.mux_config.specs.Taken.{is_full, sum_of}
 use Rattle.mux_config.proofs.PartFacts.{parts_with, said_here}
 use Rattle.mux_config.proofs.FurtherFacts.{further_more, further_none, sound_at}
-use Rattle.mux_config.proofs.TakenFacts.{base_size, cable_room, name_bytes, name_room, nit_room, others_size, program_room, rooms_more, rooms_none, service_room, sum_placed}
+use Rattle.mux_config.proofs.TakenFacts.{IsPlaced, cable_room, name_bytes, name_room, nit_room, other_room, others_placed, program_room, rooms_more, rooms_none, service_room}
 use Rattle.mux_config.specs.Descriptions.{Description, all_of, cable_of, delivery_in, first, first_line, has_any_id, has_id, has_ids, has_pmt, has_pid, has_region, holds, local_in, ended, is_stream, stream_in, with_network, with_services, with_stream, has_no_place, insert, is_delivery, is_network, is_quota, is_rate, is_start, mux_with, network_in, numbered, part_in, quota_in, rate_in, rate_of, repeated_at, said, service_in, services_of, sorted, start_in, with_descriptors, with_parts, other_in, others_of, with_remotes}
 use Rattle.mux_lines.specs.Fine.{IsFine, IsFineNetwork, IsFineService, IsFineStart, IsFineStream}
 use Rattle.mux_config.proofs.FineRecords.{AreFine, AreFineOthers, AreTaken, IsSpoken, IsAlone, IsApart, in_order, others_in, parts_in}
-use Rattle.mux_model.specs.Rooms.{cable_size, network_size}
+use Rattle.mux_model.specs.Rooms.{cable_size, front_size, other_size, own_size}
 use Rattle.mux_model.specs.Sound.{AreDifferent, Between, DoAscend, HasSoundCable, HasSoundRate, IsSoundCable, IsSoundComponent, IsSoundOffset, IsSoundService, AreOfRegions, comes_before, is_region, all_component_pids, component_pids, pmt_pids, IsSoundWithIds, remote_services}
 use Rattle.mux_config.proofs.RecordFacts.{all_kept, all_more, differs, first_not, none_pass, or_false_left, or_false_right, or_none_left, or_none_right, said_all}
 use Rattle.mux_config.proofs.Ordering.{sorted_more}
-use Rattle.mux_config.proofs.FineOthers.{fine_ids, first_alone, kept_names, others_kept, others_more, others_none, remotes_few, remotes_more, sound_others, stream_alone}
+use Rattle.mux_config.proofs.FineOthers.{fine_ids, first_alone, kept_names, others_kept, others_more, others_none, remotes_more, sound_others, stream_alone}
 
 -- ---- lists
 
@@ -408,15 +410,20 @@ pub record IsFineMux (mux : Mux) : Type 0 where
   pub services : AllByRecursion (λ (s : MuxService). IsKept s.provider × IsKept s.name) mux.services
   pub remotes : AllByRecursion (λ (s : RemoteService). IsKept s.provider × IsKept s.name) (remote_services mux.others)
 
--- the size of the NIT
-small_network : (rs : List Numbered) (network : ℕ × List ℕ) (stream : ℕ × ℕ) → AreTaken rs → coded_size network.1 ≤ sum_of name_bytes rs → network_size (mux_with network stream rs) ≤ 1012
+-- the sections of the NIT
+small_network : (rs : List Numbered) (network : ℕ × List ℕ) (stream : ℕ × ℕ) → AreTaken rs → coded_size network.1 ≤ sum_of name_bytes rs
+    → front_size (mux_with network stream rs) + own_size (mux_with network stream rs) ≤ 1012
 small_network rs network stream t name =
-    let each = with_remotes rs in
     let services : length (services_of rs) ≡ length (all_of service_in rs) = omega (arith, length-map (in_order rs) (with_parts rs), length_sorted_from (all_of service_in rs) []) in
-    let others : sum_by base_size (others_in rs) ≡ sum_by base_size (all_of other_in rs) = omega (arith, sum_placed base_size comes_before (all_of other_in rs) []) in
-    let most = nit_room rs (coded_size network.1) (length (services_of rs)) (sum_by base_size (others_in rs)) (length (remote_services (others_of rs))) (cable_size (cable_of rs)) t.rooms name services others
-    (remotes_few rs t.fine.others) (cable_room rs) in
-    omega (arith, most, others_size rs (others_in rs))
+    let most = nit_room rs (coded_size network.1) (length (services_of rs)) (cable_size (cable_of rs)) t.rooms name services (cable_room rs) in
+    omega (arith, most)
+
+small_others : (rs : List Numbered) (network : ℕ × List ℕ) (stream : ℕ × ℕ) → AreTaken rs → coded_size network.1 ≤ sum_of name_bytes rs
+    → AllByRecursion (λ (o : Other). front_size (mux_with network stream rs) + other_size o ≤ 1012) (others_of rs)
+small_others rs network stream t name =
+    all_through (IsPlaced rs) (λ (o : Other). front_size (mux_with network stream rs) + other_size o ≤ 1012) (with_remotes rs)
+    (λ o h. other_room rs o (coded_size network.1) h name) (others_in rs)
+    (all_in_place (IsPlaced rs) comes_before (all_of other_in rs) [] (others_placed rs t.rooms) tt)
 
 fine_mux : (rs : List Numbered) (network : ℕ × List ℕ) (stream : ℕ × ℕ) → AreTaken rs → IsFineNetwork network → coded_size network.1 ≤ sum_of name_bytes rs → IsFineStream stream → IsAlone (others_in rs) (Some stream)
     → 1 ≤ length (services_of rs) → IsFineMux (mux_with network stream rs)
@@ -425,7 +432,7 @@ fine_mux rs network stream t named name ids alone some =
     let ts = in_order rs in
     let served = served_all IsFineService IsFine service_said rs f.each in
     let most : length (services_of rs) ≤ 64 = omega (arith, f.count, length-map (in_order rs) (with_parts rs)) in
-    let others = sound_others rs network stream f.each f.others alone in
+    let others = sound_others rs network stream f.each f.others t.rooms alone in
     record {
       sound = record {
         sound = record {
@@ -445,6 +452,7 @@ fine_mux rs network stream t named name ids alone some =
           network_descriptors = sound_at InNetwork rs f.each;
           stream_descriptors = sound_at InStream rs f.each;
           network_room = small_network rs network stream t name;
+          others_room = small_others rs network stream t name;
         };
         network = named.0;
         stream = ids.0;

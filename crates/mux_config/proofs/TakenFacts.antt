@@ -1,26 +1,31 @@
 -- How much records take of the room in a section, and how much of it the multiplex has.
-use Rattle.std.proofs.Common.{◌≡◌, ◌≢◌, ℕ, ◌+◌, ◌*◌, ◌≤◌, ◌==◌, Bool, false, cond, List, [], ◌∷◌, ◌++◌, length, map, sum_by, Option, Some, None, refl, sym, ◌∙◌, subst, arith, inl, inr, length-append, lit≤}
-use Rattle.std.specs.Prelude.{nat_lt, IfSome}
-use Rattle.std.specs.List.{AllByRecursion, cons_option}
+use Rattle.std.proofs.Common.{◌≡◌, ◌≢◌, ℕ, ◌+◌, ◌*◌, ◌≤◌, ◌==◌, Bool, true, false, cond, List, [], ◌∷◌, ◌++◌, length, map, sum_by, Option, Some, None, refl, sym, ◌∙◌, subst, arith, inl, inr, lit≤}
+use Rattle.std.specs.Prelude.{◌&&◌, nat_lt, IfSome}
+use Rattle.std.specs.List.{AllByRecursion, cons_option, list_any}
 use Rattle.std.proofs.lemmas.Bool.{cases_Bool, eqb-true}
 use Rattle.std.proofs.lemmas.Bool.Decides.{nat_tests}
+use Rattle.std.proofs.lemmas.List.{length-map}
 use Rattle.std.proofs.lemmas.List.Sums.{sum_by-append, sum_by-cons, sum_by_push}
+use Rattle.si_lists.proofs.Lists.{all_map, all_push, all_two}
+use Rattle.si_lists.proofs.Truths.{first_true, second_true}
 use Rattle.guide_model.specs.Coding.{coded_size}
 use Rattle.guide_model.specs.Descriptors.{descriptors_size}
 use Rattle.guide_model.specs.declared.descriptor.RawDesc.{RawDesc}
 use Rattle.guide_model.specs.declared.stream.Component.{Component}
 use Rattle.mux_model.specs.declared.mux.MuxService.{MuxService}
 use Rattle.mux_model.specs.declared.mux.Other.{Other}
-use Rattle.mux_model.specs.Order.{all_placed, placed}
+use Rattle.mux_model.specs.Order.{all_placed}
+use Rattle.mux_model.proofs.Placing.{length_placed}
 use Rattle.mux_model.specs.Rooms.{cable_size, component_size, language_size, other_size, program_size}
-use Rattle.mux_model.specs.Sound.{AreDifferent, remote_services}
-use Rattle.mux_lines.specs.declared.record.Place.TheVariants.{InNetwork, InStream, InService, InProgram, InComponent}
+use Rattle.mux_model.specs.Sound.{AreDifferent, has_lower_id}
+use Rattle.mux_lines.specs.declared.record.Place.TheVariants.{InNetwork, InStream, InOther, InService, InProgram, InComponent}
 use Rattle.mux_lines.specs.declared.record.Record.{Record}
-use Rattle.mux_lines.specs.declared.record.Record.TheVariants.{Network, Delivery, Part, Elsewhere, Further}
+use Rattle.mux_lines.specs.declared.record.Record.TheVariants.{Network, Delivery, Part, Elsewhere, Remote, Further}
 use Rattle.mux_lines.specs.declared.record.Numbered.{Numbered}
-use Rattle.mux_config.specs.Descriptions.{all_of, delivery_in, descriptors_at, first, is_delivery, is_network, network_in, numbered, other_in, part_in, remote_in, said, said_at, service_in, with_descriptors, with_parts, with_remotes}
-use Rattle.mux_config.specs.Taken.{is_full, network_bytes, network_taken, program_bytes, program_taken, service_bytes, service_taken, sum_of}
-use Rattle.mux_config.proofs.FineRecords.{AreInRooms, parts_in}
+use Rattle.mux_config.specs.Descriptions.{all_of, delivery_in, descriptors_at, first, is_delivery, is_network, network_in, numbered, other_in, part_in, remote_of, said, said_at, service_in, with_descriptors, with_own, with_parts, with_remotes}
+use Rattle.mux_config.specs.Taken.{is_full, other_bytes, other_taken, own_bytes, own_taken, passes_each, passes_of, passes_other, passes_own, program_bytes, program_taken, service_bytes, service_taken, sum_of}
+use Rattle.mux_config.proofs.FineRecords.{AreInRooms, HasOtherRoom, parts_in}
+use Rattle.mux_config.proofs.RecordFacts.{or_false_left, or_false_right, said_all}
 
 -- ---- one record more
 
@@ -30,12 +35,89 @@ sum_more f rs line says = sum_by_push (λ (r : Numbered). f r.says) rs (numbered
 not_past : (most n : ℕ) → nat_lt most n ≡ false → n ≤ most
 not_past most n e = grind (arith, nat_tests)
 
-network_more : (rs : List Numbered) (line : ℕ) (says : Record) → network_taken rs ≤ 1012 → is_full rs says ≡ false → network_taken (rs ++ numbered line says ∷ []) ≤ 1012
-network_more rs line (Part id c) few room = omega (arith, few, sum_more network_bytes rs line (Part id c))
-network_more rs line (Further (InService id) ds) few room = omega (arith, few, sum_more network_bytes rs line (Further (InService id) ds))
-network_more rs line (Further (InProgram id) ds) few room = omega (arith, few, sum_more network_bytes rs line (Further (InProgram id) ds))
-network_more rs line (Further (InComponent id pid) ds) few room = omega (arith, few, sum_more network_bytes rs line (Further (InComponent id pid) ds))
-network_more rs line other few room = omega (arith, not_past 1012 (network_taken rs + network_bytes other) room, sum_more network_bytes rs line other)
+own_with : (rs : List Numbered) (line : ℕ) (says : Record) → passes_own rs says ≡ false → own_taken (rs ++ numbered line says ∷ []) ≤ 1012
+own_with rs line says room = omega (arith, not_past 1012 (own_taken rs + own_bytes says) room, sum_more own_bytes rs line says)
+
+own_kept : (rs : List Numbered) (line : ℕ) (says : Record) → own_taken rs ≤ 1012 → own_bytes says ≡ 0 → own_taken (rs ++ numbered line says ∷ []) ≤ 1012
+own_kept rs line says few none = omega (arith, few, none, sum_more own_bytes rs line says)
+
+own_more : (rs : List Numbered) (line : ℕ) (says : Record) → own_taken rs ≤ 1012 → is_full rs says ≡ false → own_taken (rs ++ numbered line says ∷ []) ≤ 1012
+own_more rs line (Network id name) few room = own_with rs line (Network id name) (or_false_left (passes_own rs (Network id name)) _ room)
+own_more rs line (Part id c) few room = own_kept rs line (Part id c) few refl
+own_more rs line (Elsewhere s o cable) few room = own_kept rs line (Elsewhere s o cable) few refl
+own_more rs line (Remote s o service) few room = own_kept rs line (Remote s o service) few refl
+own_more rs line (Further InNetwork ds) few room = own_with rs line (Further InNetwork ds) (or_false_left (passes_own rs (Further InNetwork ds)) _ room)
+own_more rs line (Further InStream ds) few room = own_with rs line (Further InStream ds) room
+own_more rs line (Further place ds) few room = own_kept rs line (Further place ds) few refl
+own_more rs line other few room = own_with rs line other room
+
+-- ---- sections of the NIT with the entry of another stream
+
+other_with : (rs : List Numbered) (line : ℕ) (says : Record) (s o : ℕ) → passes_other s o rs says ≡ false → other_taken s o (rs ++ numbered line says ∷ []) ≤ 1012
+other_with rs line says s o room = omega (arith, not_past 1012 (other_taken s o rs + other_bytes s o says) room, sum_more (other_bytes s o) rs line says)
+
+other_kept : (rs : List Numbered) (line : ℕ) (says : Record) (s o : ℕ) → other_taken s o rs ≤ 1012 → other_bytes s o says ≡ 0 → other_taken s o (rs ++ numbered line says ∷ []) ≤ 1012
+other_kept rs line says s o few none = omega (arith, few, none, sum_more (other_bytes s o) rs line says)
+
+-- that of the record's own stream, and that of another one
+own_or_other : (rs : List Numbered) (line : ℕ) (says : Record) (a b s o : ℕ) → other_taken s o rs ≤ 1012 → passes_other a b rs says ≡ false → ((a == s && b == o) ≡ false → other_bytes s o says ≡ 0)
+    → other_taken s o (rs ++ numbered line says ∷ []) ≤ 1012
+own_or_other rs line says a b s o few room none = elim (cases_Bool (a == s && b == o)) [
+  | inl own ↦
+      let one = eqb-true a s (first_true (a == s) (b == o) own) in
+      let two = eqb-true b o (second_true (a == s) (b == o) own) in
+      subst (λ (k : ℕ). other_taken k o (rs ++ numbered line says ∷ []) ≤ 1012) one
+      (subst (λ (k : ℕ). other_taken a k (rs ++ numbered line says ∷ []) ≤ 1012) two (other_with rs line says a b room))
+  | inr other ↦ other_kept rs line says s o few (none other)
+]
+
+-- what an earlier record keeps, and what it was tried for
+room_kept : (rs : List Numbered) (line : ℕ) (says : Record) → ((s o : ℕ) → other_taken s o rs ≤ 1012 → other_taken s o (rs ++ numbered line says ∷ []) ≤ 1012) → (earlier : Record)
+    → HasOtherRoom rs earlier → HasOtherRoom (rs ++ numbered line says ∷ []) earlier
+room_kept rs line says f (Elsewhere s o cable) h = f s o h
+room_kept rs line says f other h = tt
+
+room_tried : (rs : List Numbered) (line : ℕ) (says earlier : Record) → passes_of rs says earlier ≡ false → HasOtherRoom (rs ++ numbered line says ∷ []) earlier
+room_tried rs line says (Elsewhere s o cable) room = other_with rs line says s o room
+room_tried rs line says other room = tt
+
+all_kept_rooms : (rs : List Numbered) (line : ℕ) (says : Record) → AllByRecursion (λ (r : Numbered). HasOtherRoom rs r.says) rs
+    → ((s o : ℕ) → other_taken s o rs ≤ 1012 → other_taken s o (rs ++ numbered line says ∷ []) ≤ 1012) → AllByRecursion (λ (r : Numbered). HasOtherRoom (rs ++ numbered line says ∷ []) r.says) rs
+all_kept_rooms rs line says h f =
+    all_map (λ (r : Numbered). HasOtherRoom rs r.says) (λ (r : Numbered). HasOtherRoom (rs ++ numbered line says ∷ []) r.says) (λ r. room_kept rs line says f r.says) rs h
+
+none_any : (test : Numbered → Bool) (rs : List Numbered) → list_any test rs ≡ false → AllByRecursion (λ (r : Numbered). test r ≡ false) rs
+none_any test [] e = tt
+none_any test (r ∷ rs) e = (or_false_left (test r) (list_any test rs) e, none_any test rs (or_false_right (test r) (list_any test rs) e))
+
+all_tried : (rs : List Numbered) (line : ℕ) (says : Record) → passes_each rs says ≡ false → AllByRecursion (λ (r : Numbered). HasOtherRoom (rs ++ numbered line says ∷ []) r.says) rs
+all_tried rs line says room =
+    all_map (λ (r : Numbered). passes_of rs says r.says ≡ false) (λ (r : Numbered). HasOtherRoom (rs ++ numbered line says ∷ []) r.says) (λ r. room_tried rs line says r.says) rs
+    (none_any (λ (r : Numbered). passes_of rs says r.says) rs (or_false_right (passes_own rs says) (list_any (λ (r : Numbered). passes_of rs says r.says) rs) room))
+
+earlier_rooms : (rs : List Numbered) (line : ℕ) (says : Record) → AllByRecursion (λ (r : Numbered). HasOtherRoom rs r.says) rs → is_full rs says ≡ false
+    → AllByRecursion (λ (r : Numbered). HasOtherRoom (rs ++ numbered line says ∷ []) r.says) rs
+earlier_rooms rs line (Network id name) h room = all_tried rs line (Network id name) room
+earlier_rooms rs line (Further InNetwork ds) h room = all_tried rs line (Further InNetwork ds) room
+earlier_rooms rs line (Elsewhere a b cable) h room =
+    all_kept_rooms rs line (Elsewhere a b cable) h (λ s o few. own_or_other rs line (Elsewhere a b cable) a b s o few room (λ other. rw other refl))
+earlier_rooms rs line (Remote a b service) h room =
+    all_kept_rooms rs line (Remote a b service) h (λ s o few. own_or_other rs line (Remote a b service) a b s o few room (λ other. rw other refl))
+earlier_rooms rs line (Further (InOther a b) ds) h room =
+    all_kept_rooms rs line (Further (InOther a b) ds) h (λ s o few. own_or_other rs line (Further (InOther a b) ds) a b s o few room (λ other. rw other refl))
+earlier_rooms rs line (Further place ds) h room = all_kept_rooms rs line (Further place ds) h (λ s o few. other_kept rs line (Further place ds) s o few refl)
+earlier_rooms rs line other h room = all_kept_rooms rs line other h (λ s o few. other_kept rs line other s o few refl)
+
+own_room : (rs : List Numbered) (line : ℕ) (says : Record) → is_full rs says ≡ false → HasOtherRoom (rs ++ numbered line says ∷ []) says
+own_room rs line (Elsewhere s o cable) room = other_with rs line (Elsewhere s o cable) s o room
+own_room rs line other room = tt
+
+others_more : (rs : List Numbered) (line : ℕ) (says : Record) → AllByRecursion (λ (r : Numbered). HasOtherRoom rs r.says) rs → is_full rs says ≡ false
+    → AllByRecursion (λ (r : Numbered). HasOtherRoom (rs ++ numbered line says ∷ []) r.says) (rs ++ numbered line says ∷ [])
+others_more rs line says h room =
+    all_push (λ (r : Numbered). HasOtherRoom (rs ++ numbered line says ∷ []) r.says) rs (numbered line says) (earlier_rooms rs line says h room) (own_room rs line says room)
+
+-- ---- rooms of services
 
 -- a room of the record's own service, and that of another
 own_or_kept : (taken adds : ℕ → ℕ) (most home id : ℕ) → taken id ≤ most → nat_lt most (taken home + adds home) ≡ false → ((home == id) ≡ false → adds id ≡ 0) → taken id + adds id ≤ most
@@ -64,11 +146,12 @@ service_more rs line (Further (InService home) ds) id few room =
 service_more rs line other id few room = omega (arith, few, sum_more (service_bytes id) rs line other)
 
 pub rooms_none : AreInRooms []
-rooms_none = record { network = lit≤ tt; program = λ id. lit≤ tt; service = λ id. lit≤ tt }
+rooms_none = record { own = lit≤ tt; others = tt; program = λ id. lit≤ tt; service = λ id. lit≤ tt }
 
 pub rooms_more : (rs : List Numbered) (line : ℕ) (says : Record) → AreInRooms rs → is_full rs says ≡ false → AreInRooms (rs ++ numbered line says ∷ [])
 rooms_more rs line says f room = record {
-  network = network_more rs line says f.network room;
+  own = own_more rs line says f.own room;
+  others = others_more rs line says f.others room;
   program = λ id. program_more rs line says id (f.program id) room;
   service = λ id. service_more rs line says id (f.service id) room;
 }
@@ -206,9 +289,6 @@ program_room s rs f once =
 
 -- ---- the NIT
 
-abbrev pub base_size : Other → ℕ
-base_size o = 8 + cable_size o.cable
-
 abbrev pub name_bytes : Record → ℕ
 name_bytes (Network id name) = coded_size name
 name_bytes r = 0
@@ -217,43 +297,83 @@ abbrev pub cable_bytes : Record → ℕ
 cable_bytes (Delivery cable) = 13
 cable_bytes r = 0
 
--- what a record adds to each part of the NIT
-abbrev parts_said : Record → ℕ
-parts_said says =
-    descriptors_size (said_at InNetwork says) + descriptors_size (said_at InStream says)
-    + 3 * length (cons_option (service_in says) []) + sum_by base_size (cons_option (other_in says) []) + 3 * length (cons_option (remote_in says) [])
-    + (name_bytes says + cable_bytes says)
+-- what a record adds to each part of a section with the entry of the own stream
+abbrev own_said : Record → ℕ
+own_said says =
+    descriptors_size (said_at InNetwork says) + descriptors_size (said_at InStream says) + 3 * length (cons_option (service_in says) []) + (name_bytes says + cable_bytes says)
 
-one_network : (says : Record) → parts_said says ≡ network_bytes says
-one_network (Further InNetwork ds) = omega arith
-one_network (Further InStream ds) = omega arith
-one_network (Further place ds) = refl
-one_network (Network id name) = omega arith
-one_network (Elsewhere s o cable) = omega arith
-one_network other = refl
+one_own : (says : Record) → own_said says ≡ own_bytes says
+one_own (Further InNetwork ds) = omega arith
+one_own (Further InStream ds) = omega arith
+one_own (Further place ds) = refl
+one_own (Network id name) = omega arith
+one_own other = refl
 
 length_option : {X : Type 0} (o : Option X) (xs : List X) → length (cons_option o xs) ≡ length (cons_option o []) + length xs
 length_option None xs = omega arith
 length_option (Some x) xs = omega arith
 
-network_parts : (rs : List Numbered)
-    → descriptors_size (descriptors_at InNetwork rs) + descriptors_size (descriptors_at InStream rs)
-    + 3 * length (all_of service_in rs) + sum_by base_size (all_of other_in rs) + 3 * length (all_of remote_in rs)
-    + (sum_of name_bytes rs + sum_of cable_bytes rs) ≡ sum_of network_bytes rs
-network_parts [] = refl
-network_parts (r ∷ rs) =
+own_parts : (rs : List Numbered)
+    → descriptors_size (descriptors_at InNetwork rs) + descriptors_size (descriptors_at InStream rs) + 3 * length (all_of service_in rs)
+    + (sum_of name_bytes rs + sum_of cable_bytes rs) ≡ sum_of own_bytes rs
+own_parts [] = refl
+own_parts (r ∷ rs) =
     omega (
       arith,
       sizes (said_at InNetwork r.says) (descriptors_at InNetwork rs),
       sizes (said_at InStream r.says) (descriptors_at InStream rs),
       length_option (service_in r.says) (all_of service_in rs),
-      sum_option base_size (other_in r.says) (all_of other_in rs),
-      length_option (remote_in r.says) (all_of remote_in rs),
       sum_by-cons (λ (x : Numbered). name_bytes x.says) r rs,
       sum_by-cons (λ (x : Numbered). cable_bytes x.says) r rs,
-      sum_by-cons (λ (x : Numbered). network_bytes x.says) r rs,
-      one_network r.says,
-      network_parts rs,
+      sum_by-cons (λ (x : Numbered). own_bytes x.says) r rs,
+      one_own r.says,
+      own_parts rs,
+    )
+
+-- the cable delivery of another stream
+abbrev delivery_bytes : ℕ → ℕ → Record → ℕ
+delivery_bytes s o (Elsewhere a b cable) = cond (a == s && b == o) (cable_size cable) 0
+delivery_bytes s o r = 0
+
+-- what a record adds to each part of a section with the entry of another stream
+abbrev other_said : ℕ → ℕ → Record → ℕ
+other_said s o says =
+    descriptors_size (said_at InNetwork says) + descriptors_size (said_at (InOther s o) says) + 3 * length (cons_option (remote_of s o says) [])
+    + (name_bytes says + delivery_bytes s o says)
+
+one_other : (s o : ℕ) (says : Record) → other_said s o says ≡ other_bytes s o says
+one_other s o (Further InNetwork ds) = omega arith
+one_other s o (Further (InOther a b) ds) = elim (cases_Bool (a == s && b == o)) [
+  | inl own ↦ rw own (omega arith)
+  | inr other ↦ rw other refl
+]
+one_other s o (Further place ds) = refl
+one_other s o (Network id name) = omega arith
+one_other s o (Elsewhere a b cable) = elim (cases_Bool (a == s && b == o)) [
+  | inl own ↦ rw own (omega arith)
+  | inr other ↦ rw other refl
+]
+one_other s o (Remote a b service) = elim (cases_Bool (a == s && b == o)) [
+  | inl own ↦ rw own (omega arith)
+  | inr other ↦ rw other refl
+]
+one_other s o other = refl
+
+other_parts : (s o : ℕ) (rs : List Numbered)
+    → descriptors_size (descriptors_at InNetwork rs) + descriptors_size (descriptors_at (InOther s o) rs) + 3 * length (all_of (remote_of s o) rs)
+    + (sum_of name_bytes rs + sum_of (delivery_bytes s o) rs) ≡ sum_of (other_bytes s o) rs
+other_parts s o [] = refl
+other_parts s o (r ∷ rs) =
+    omega (
+      arith,
+      sizes (said_at InNetwork r.says) (descriptors_at InNetwork rs),
+      sizes (said_at (InOther s o) r.says) (descriptors_at (InOther s o) rs),
+      length_option (remote_of s o r.says) (all_of (remote_of s o) rs),
+      sum_by-cons (λ (x : Numbered). name_bytes x.says) r rs,
+      sum_by-cons (λ (x : Numbered). delivery_bytes s o x.says) r rs,
+      sum_by-cons (λ (x : Numbered). other_bytes s o x.says) r rs,
+      one_other s o r.says,
+      other_parts s o rs,
     )
 
 -- the first name is one of those
@@ -287,33 +407,60 @@ cable_room (r ∷ rs) =
       | inr other ↦ rw other (omega (arith, all, cable_room rs))
     ]
 
-sum_with : {X : Type 0} (f : X → ℕ) (before : X → X → Bool) (x : X) (ys : List X) → sum_by f (placed before x ys) ≡ f x + sum_by f ys
-sum_with f before x [] = omega arith
-sum_with f before x (y ∷ ys) = elim (cases_Bool (before x y)) [
-  | inl e ↦ rw e (sum_by-cons f x (y ∷ ys))
-  | inr e ↦ rw e (omega (arith, sum_by-cons f y (placed before x ys), sum_by-cons f y ys, sum_with f before x ys))
-]
+-- the section with the entry of the own stream, by the parts of the records
+pub nit_room : (rs : List Numbered) (name services cable : ℕ) → AreInRooms rs → name ≤ sum_of name_bytes rs → services ≡ length (all_of service_in rs) → cable ≤ sum_of cable_bytes rs
+    → 6 + name + descriptors_size (descriptors_at InNetwork rs) + (8 + cable + 3 * services + descriptors_size (descriptors_at InStream rs)) ≤ 1012
+nit_room rs name services cable f a b c =
+    let most = f.own in
+    omega (arith, most, own_parts rs, a, b, c)
 
-pub sum_placed : {X : Type 0} (f : X → ℕ) (before : X → X → Bool) (xs done : List X) → sum_by f (all_placed before xs done) ≡ sum_by f done + sum_by f xs
-sum_placed f before [] done = omega arith
-sum_placed f before (x ∷ xs) done = omega (arith, sum_placed f before xs (placed before x done), sum_with f before x done, sum_by-cons f x xs)
+-- ---- other streams in the NIT
 
-pub others_size : (rs : List Numbered) (others : List Other) → sum_by other_size (map (with_remotes rs) others) ≡ sum_by base_size others + 3 * length (remote_services (map (with_remotes rs) others))
-others_size rs [] = refl
-others_size rs (o ∷ others) =
-    let whole = with_remotes rs o in
+-- no record takes more than all
+each_among : (rs : List Numbered) → AllByRecursion (λ (r : Numbered). (f : Record → ℕ) → f r.says ≤ sum_of f rs) rs
+each_among [] = tt
+each_among (r ∷ rs) = (
+  λ f. omega (arith, sum_by-cons (λ (x : Numbered). f x.says) r rs),
+  all_map (λ (x : Numbered). (f : Record → ℕ) → f x.says ≤ sum_of f rs) (λ (x : Numbered). (f : Record → ℕ) → f x.says ≤ sum_of f (r ∷ rs))
+      (λ x h f. (let here = h f in omega (arith, here, sum_by-cons (λ (y : Numbered). f y.says) r rs))) rs (each_among rs),
+)
+
+-- another stream whose section has room, and whose cable delivery is among the records
+pub record IsPlaced (rs : List Numbered) (o : Other) : Type 0 where
+  pub room : other_taken o.stream o.original rs ≤ 1012
+  pub cable : cable_size o.cable ≤ sum_of (delivery_bytes o.stream o.original) rs
+
+placed_said : (rs : List Numbered) (r : Record) (p : Other) → HasOtherRoom rs r × ((f : Record → ℕ) → f r ≤ sum_of f rs) → other_in r ≡ Some p → IsPlaced rs p
+placed_said rs (Elsewhere s o cable) p h e =
+    let new : Other = record { stream = s; original = o; cable = cable; services = []; descriptors = [] } in
+    let same : new ≡ p = cc e in
+    let most : cond (s == s && o == o) (cable_size cable) 0 ≤ sum_of (delivery_bytes s o) rs = h.1 (delivery_bytes s o) in
+    subst (IsPlaced rs) same (record { room = h.0; cable = rw (own s o) at most })
+  where
+    own : (a b : ℕ) → (a == a && b == b) ≡ true
+    own a b = grind (arith, nat_tests)
+placed_said rs other p h e = cc e
+
+-- each of them
+pub others_placed : (rs : List Numbered) → AreInRooms rs → AllByRecursion (IsPlaced rs) (all_of other_in rs)
+others_placed rs f =
+    said_all other_in (IsPlaced rs) (λ r. HasOtherRoom rs r × ((f : Record → ℕ) → f r ≤ sum_of f rs)) (placed_said rs) rs
+    (all_two (λ (r : Numbered). HasOtherRoom rs r.says) (λ (r : Numbered). (f : Record → ℕ) → f r.says ≤ sum_of f rs)
+    (λ (r : Numbered). HasOtherRoom rs r.says × ((f : Record → ℕ) → f r.says ≤ sum_of f rs)) (λ r a b. (a, b)) rs f.others (each_among rs))
+
+-- the section with its entry, by the parts of the records
+pub other_room : (rs : List Numbered) (o : Other) (name : ℕ) → IsPlaced rs o → name ≤ sum_of name_bytes rs
+    → 6 + name + descriptors_size (descriptors_at InNetwork rs) + other_size (with_remotes rs o) ≤ 1012
+other_room rs o name h a =
+    let most = h.room in
+    let cable = h.cable in
+    let own = all_placed has_lower_id (all_of (remote_of o.stream o.original) rs) [] in
     omega (
       arith,
-      sum_by-cons other_size whole (map (with_remotes rs) others),
-      sum_by-cons base_size o others,
-      length-append whole.services (remote_services (map (with_remotes rs) others)),
-      others_size rs others,
+      most,
+      cable,
+      a,
+      other_parts o.stream o.original rs,
+      length-map own (with_own rs),
+      length_placed has_lower_id (all_of (remote_of o.stream o.original) rs) [],
     )
-
--- the size of the NIT, by the parts of its records
-pub nit_room : (rs : List Numbered) (name services others remotes cable : ℕ) → AreInRooms rs → name ≤ sum_of name_bytes rs → services ≡ length (all_of service_in rs)
-    → others ≡ sum_by base_size (all_of other_in rs) → remotes ≤ length (all_of remote_in rs) → cable ≤ sum_of cable_bytes rs
-    → 6 + name + descriptors_size (descriptors_at InNetwork rs) + (8 + cable + 3 * services + descriptors_size (descriptors_at InStream rs)) + (others + 3 * remotes) ≤ 1012
-nit_room rs name services others remotes cable f a b c d e =
-    let most = f.network in
-    omega (arith, most, network_parts rs, a, b, c, d, e)

@@ -14,7 +14,7 @@ use Rattle.mux_model.specs.Sound.{AreDifferent, comes_before, has_lower_id, has_
 use Rattle.mux_lines.specs.declared.record.Record.{Record}
 use Rattle.mux_lines.specs.declared.record.Record.TheVariants.{Service, Remote}
 use Rattle.mux_lines.specs.declared.record.Numbered.{Numbered}
-use Rattle.mux_config.specs.Descriptions.{all_of, has_any_id, insert, remote_in, remote_of, service_in, sorted, with_remotes}
+use Rattle.mux_config.specs.Descriptions.{all_of, has_any_id, insert, remote_in, remote_of, service_in, sorted, with_own, with_remotes}
 
 abbrev pub tally : {X : Type 0} → (X → Bool) → List X → ℕ
 tally test [] = 0
@@ -111,11 +111,20 @@ of_each rs others = flat_map (λ (o : Other). all_of (remote_of o.stream o.origi
 abbrev with_record : Record → List Numbered → List Other → List RemoteService
 with_record says rs others = flat_map (λ (o : Other). cons_option (remote_of o.stream o.original says) (all_of (remote_of o.stream o.original) rs)) others
 
-pub tally_remotes : (test : RemoteService → Bool) (rs : List Numbered) (others : List Other) → tally test (remote_services (map (with_remotes rs) others)) ≡ tally test (of_each rs others)
+pub tally_remotes : (test : RemoteService → Bool) (rs : List Numbered) (others : List Other)
+    → tally test (remote_services (map (with_remotes rs) others)) ≡ tally (λ (s : RemoteService). test (with_own rs s)) (of_each rs others)
 tally_remotes test rs [] = refl
 tally_remotes test rs (o ∷ others) =
     let own = all_of (remote_of o.stream o.original) rs in
-    omega (arith, tally_append test (all_placed has_lower_id own []) (remote_services (map (with_remotes rs) others)), tally_placed test has_lower_id own [], tally_append test own (of_each rs others), tally_remotes test rs others)
+    let said = λ (s : RemoteService). test (with_own rs s) in
+    omega (
+      arith,
+      tally_append test (map (with_own rs) (all_placed has_lower_id own [])) (remote_services (map (with_remotes rs) others)),
+      tally_map test (with_own rs) (all_placed has_lower_id own []),
+      tally_placed said has_lower_id own [],
+      tally_append said own (of_each rs others),
+      tally_remotes test rs others,
+    )
 
 of_each_none : (test : RemoteService → Bool) (others : List Other) → tally test (of_each [] others) ≡ 0
 of_each_none test [] = refl

@@ -55,7 +55,7 @@ stream kind pid language = record { stream_type = kind; pid = pid; language = la
 
 -- a service of another stream
 abbrev remote : ℕ → RemoteService
-remote id = record { service = id; feed = 1; kind = 1; provider = codes "Acme"; name = codes "Two" }
+remote id = record { service = id; feed = 1; kind = 1; provider = codes "Acme"; name = codes "Two"; descriptors = [] }
 
 abbrev mux_with : List MuxService → Mux
 mux_with = mux_of 40 (codes "Demo") 1 1 (record { 0 = 3506716800 }) 200
@@ -163,16 +163,16 @@ remote_line = codes "remote,2,1,201,1,1,Acme,Two"
 
 -- one other stream with one service
 other_stream : described (network_line ∷ stream_line ∷ service_line ∷ other_line ∷ remote_line ∷ end_line ∷ [])
-    ≡ whole_with (service 101 256 257 [] ∷ []) (record { stream = 2; original = 1; cable = None; services = remote 201 ∷ [] } ∷ []) 7
+    ≡ whole_with (service 101 256 257 [] ∷ []) (record { stream = 2; original = 1; cable = None; services = remote 201 ∷ []; descriptors = [] } ∷ []) 7
 unfolding chars is_utf8 lib.Utf8.encode next_record strip_bom
 other_stream = refl
 
 -- other streams ascend by stream and then by original, and each one's services by id
 in_order : described (codes "other,3,1" ∷ codes "other,2,2,3120000,3,68750,2,15" ∷ other_line ∷ codes "remote,2,1,203,1,1,Acme,Two" ∷ codes "remote,2,2,202,1,1,Acme,Two" ∷ remote_line ∷ network_line ∷ stream_line ∷ service_line ∷ end_line ∷ [])
     ≡ whole_with (service 101 256 257 [] ∷ [])
-    (record { stream = 2; original = 1; cable = None; services = remote 201 ∷ remote 203 ∷ [] }
-    ∷ record { stream = 2; original = 2; cable = Some (record { frequency = 3120000; modulation = 3; symbol_rate = 68750; fec_outer = 2; fec_inner = 15 }); services = remote 202 ∷ [] }
-    ∷ record { stream = 3; original = 1; cable = None; services = [] } ∷ [])
+    (record { stream = 2; original = 1; cable = None; services = remote 201 ∷ remote 203 ∷ []; descriptors = [] }
+    ∷ record { stream = 2; original = 2; cable = Some (record { frequency = 3120000; modulation = 3; symbol_rate = 68750; fec_outer = 2; fec_inner = 15 }); services = remote 202 ∷ []; descriptors = [] }
+    ∷ record { stream = 3; original = 1; cable = None; services = []; descriptors = [] } ∷ [])
     11
 unfolding chars is_utf8 lib.Utf8.encode next_record strip_bom
 in_order = refl
@@ -234,7 +234,17 @@ every_place : described (network_line ∷ stream_line ∷ service_line ∷ compo
 unfolding fields_compute groups_compute
 every_place = refl
 
--- a length that does not fit; what is made there; no such service, and no such component
+-- those of another stream, and of one of its services
+of_others : described (network_line ∷ stream_line ∷ service_line ∷ other_line ∷ codes "other,2,2" ∷ remote_line ∷ codes "descriptor,other,2,1,9001AA" ∷ codes "descriptor,service,201,7300" ∷ codes "descriptor,other,2,2,7F00"
+    ∷ codes "descriptor,other,2,1,9000 9001BB" ∷ end_line ∷ [])
+    ≡ whole_with (service 101 256 257 [] ∷ [])
+    (record { stream = 2; original = 1; cable = None; services = record (remote 201) { descriptors = desc 0x73 [] ∷ [] } ∷ []; descriptors = desc 0x90 (0xAA ∷ []) ∷ desc 0x90 [] ∷ desc 0x90 (0xBB ∷ []) ∷ [] }
+    ∷ record { stream = 2; original = 2; cable = None; services = []; descriptors = desc 0x7F [] ∷ [] } ∷ [])
+    12
+unfolding fields_compute groups_compute
+of_others = refl
+
+-- a length that does not fit; what is made there; no such service, and no such component; no such other stream, and no program of its service
 too_short : fault_of_text (network_line ∷ stream_line ∷ service_line ∷ codes "descriptor,stream,5F04000028" ∷ []) ≡ Some (Line 4)
 unfolding fields_compute groups_compute
 too_short = refl
@@ -259,3 +269,11 @@ second_language = refl
 first_language : fault_of_text (network_line ∷ stream_line ∷ service_line ∷ codes "component,101,6,258," ∷ codes "descriptor,component,101,258,0A04656E6703" ∷ end_line ∷ []) ≡ None
 unfolding fields_compute groups_compute
 first_language = refl
+
+of_no_other : fault_of_text (stream_line ∷ other_line ∷ codes "descriptor,other,1,1,7F00" ∷ []) ≡ Some (Range 3)
+unfolding fields_compute groups_compute
+of_no_other = refl
+
+of_no_program : fault_of_text (other_line ∷ remote_line ∷ codes "descriptor,program,201,0900" ∷ []) ≡ Some (Range 3)
+unfolding fields_compute groups_compute
+of_no_program = refl

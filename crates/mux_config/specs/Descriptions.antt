@@ -18,7 +18,7 @@ use Rattle.mux_model.specs.declared.mux.Mux.{Mux}
 use Rattle.mux_model.specs.Order.{all_placed}
 use Rattle.mux_model.specs.Sound.{comes_before, has_lower_id, is_region}
 use Rattle.mux_lines.specs.declared.record.Place.{Place}
-use Rattle.mux_lines.specs.declared.record.Place.TheVariants.{InNetwork, InStream, InService, InProgram, InComponent}
+use Rattle.mux_lines.specs.declared.record.Place.TheVariants.{InNetwork, InStream, InOther, InService, InProgram, InComponent}
 use Rattle.mux_lines.specs.declared.record.Record.{Record}
 use Rattle.mux_lines.specs.declared.record.Record.TheVariants.{Network, Stream, Delivery, Service, Part, Start, Quota, Rate, Local, Elsewhere, Remote, Further, End}
 use Rattle.mux_lines.specs.declared.record.Numbered.{Numbered}
@@ -61,9 +61,9 @@ abbrev pub local_in : Record → Option Offset
 local_in (Local offset) = Some offset
 local_in r = None
 
--- another stream, still without services
+-- another stream, still without services and further descriptors
 abbrev pub other_in : Record → Option Other
-other_in (Elsewhere stream original cable) = Some (record { stream = stream; original = original; cable = cable; services = [] })
+other_in (Elsewhere stream original cable) = Some (record { stream = stream; original = original; cable = cable; services = []; descriptors = [] })
 other_in r = None
 
 -- a service of another stream
@@ -102,6 +102,7 @@ first_line test records = option_map (λ (r : Numbered). r.line) (first test rec
 abbrev pub is_same : Place → Place → Bool
 is_same InNetwork InNetwork = true
 is_same InStream InStream = true
+is_same (InOther a p) (InOther b q) = a == b && p == q
 is_same (InService a) (InService b) = a == b
 is_same (InProgram a) (InProgram b) = a == b
 is_same (InComponent a p) (InComponent b q) = a == b && p == q
@@ -187,9 +188,10 @@ has_region offset r = false
 abbrev pub holds : ℕ → ℕ → Record → Bool
 holds id pid r = has_pmt pid r || has_part id pid r
 
--- no earlier service or component with this place
+-- no earlier stream, service or component with this place; a service of whatever stream has an entry in an SDT
 abbrev pub lacks_place : List Numbered → Place → Bool
-lacks_place before (InService id) = not (list_any (λ (r : Numbered). has_id id r.says) before)
+lacks_place before (InOther stream original) = not (list_any (λ (r : Numbered). is_other stream original r.says) before)
+lacks_place before (InService id) = not (list_any (λ (r : Numbered). has_any_id id r.says) before)
 lacks_place before (InProgram id) = not (list_any (λ (r : Numbered). has_id id r.says) before)
 lacks_place before (InComponent id pid) = not (list_any (λ (r : Numbered). has_part id pid r.says) before)
 lacks_place before place = false
@@ -201,7 +203,7 @@ spoken_at before place descs = None
 
 -- Whether the record has no place after these: it is a 65th service, or a component of no earlier service, or the
 -- 17th of its service, or a 17th offset, or a 16th other stream, or a service of no earlier other stream, or the 65th
--- service of other streams, or further descriptors of no earlier service or component.
+-- service of other streams, or further descriptors of no earlier other stream, service or component.
 abbrev pub has_no_place : List Numbered → Record → Bool
 has_no_place before (Service s) = nat_le 64 (length (all_of service_in before))
 has_no_place before (Part id c) = not (list_any (λ (r : Numbered). has_id id r.says) before) || nat_le 16 (length (all_of (part_in id) before))
@@ -261,9 +263,16 @@ with_parts records s = record s {
 abbrev pub services_of : List Numbered → List MuxService
 services_of records = map (with_parts records) (sorted (all_of service_in records))
 
--- another stream with its services among the records, by ascending id
+-- a service of another stream with its further descriptors among the records
+abbrev pub with_own : List Numbered → RemoteService → RemoteService
+with_own records s = record s { descriptors = descriptors_at (InService s.service) records }
+
+-- another stream with its services among the records, by ascending id, and its further descriptors
 abbrev pub with_remotes : List Numbered → Other → Other
-with_remotes records o = record o { services = all_placed has_lower_id (all_of (remote_of o.stream o.original) records) [] }
+with_remotes records o = record o {
+  services = map (with_own records) (all_placed has_lower_id (all_of (remote_of o.stream o.original) records) []);
+  descriptors = descriptors_at (InOther o.stream o.original) records;
+}
 
 abbrev pub others_of : List Numbered → List Other
 others_of records = map (with_remotes records) (all_placed comes_before (all_of other_in records) [])

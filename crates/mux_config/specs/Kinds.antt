@@ -12,8 +12,8 @@ use Rattle.mux_config.specs.declared.kinds.Kind.TheVariants.{Networks, Streams, 
 use Rattle.mux_config.specs.declared.room.Room.{Room}
 use Rattle.mux_config.specs.declared.room.Room.TheVariants as room
 use Rattle.mux_lines.specs.declared.record.Record.{Record}
-use Rattle.mux_config.specs.Descriptions.{is_network, is_stream, is_delivery, is_start, is_quota, is_rate, has_any_id, has_ids, has_pmt, has_pid, has_region, holds, insert, is_spoken, local_in, other_in, part_in, remote_in, service_in, with_parts, with_remotes}
-use Rattle.mux_config.specs.Taken.{network_bytes, program_bytes, service_bytes}
+use Rattle.mux_config.specs.Descriptions.{is_network, is_stream, is_delivery, is_start, is_quota, is_rate, has_any_id, has_ids, has_pmt, has_pid, has_region, holds, insert, is_spoken, local_in, other_in, part_in, remote_in, service_in, with_own, with_parts, with_remotes}
+use Rattle.mux_config.specs.Taken.{other_bytes, own_bytes, program_bytes, service_bytes}
 
 abbrev pub is_of : Kind → Record → Bool
 is_of Networks = is_network
@@ -37,7 +37,8 @@ is_of Remotes = λ (r : Record). is_some (remote_in r)
 
 -- what a record takes of a room
 abbrev pub bytes_in : Room → Record → ℕ
-bytes_in room.Network = network_bytes
+bytes_in room.Own = own_bytes
+bytes_in (room.Other stream original) = other_bytes stream original
 bytes_in (room.Program id) = program_bytes id
 bytes_in (room.Service id) = service_bytes id
 
@@ -55,7 +56,7 @@ abbrev pub put_other : List Numbered → List Other → Option Other → List Ot
 put_other records done None = done
 put_other records done (Some o) = placed comes_before (with_remotes records o) done
 
--- a service of another stream, where there is one, at its place
-abbrev pub put_remote : List RemoteService → Option RemoteService → List RemoteService
-put_remote done None = done
-put_remote done (Some s) = placed has_lower_id s done
+-- a service of another stream, where there is one, at its place, with its further descriptors among the records
+abbrev pub put_remote : List Numbered → List RemoteService → Option RemoteService → List RemoteService
+put_remote records done None = done
+put_remote records done (Some s) = placed has_lower_id (with_own records s) done

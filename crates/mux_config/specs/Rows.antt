@@ -101,6 +101,7 @@ row_sound = record {
   network_descriptors = tt;
   stream_descriptors = tt;
   network_room = lit≤ tt;
+  others_room = tt;
 }
 
 -- services in another order, and one that stands twice

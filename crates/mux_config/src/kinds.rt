@@ -211,6 +211,12 @@ fn has_other(stream: u16, original: u16, records: &[Numbered]) -> bool
     records.iter().any(|r| is_other(stream, original, &r.says))
 }
 
+fn has_any_service(id: u16, records: &[Numbered]) -> bool
+    ensures { result ≡ list_any (λ (r : Numbered). has_any_id id r.says) records.now }
+{
+    records.iter().any(|r| has_any_id(id, &r.says))
+}
+
 fn has_service(id: u16, records: &[Numbered]) -> bool
     ensures { result ≡ list_any (λ (r : Numbered). has_id id r.says) records.now }
 {
@@ -223,14 +229,15 @@ fn has_component(id: u16, pid: u16, records: &[Numbered]) -> bool
     records.iter().any(|r| has_part(id, pid, &r.says))
 }
 
-// Whether there is no service or component with a place for further descriptors.
+// Whether there is no stream, service or component with a place for further descriptors.
 fn lacks_place(place: Place, records: &[Numbered]) -> bool
     ensures { result ≡ lacks_place records.now place }
 {
     match place {
         Place::InNetwork => false,
         Place::InStream => false,
-        Place::InService(id) => !has_service(id, records),
+        Place::InOther(stream, original) => !has_other(stream, original, records),
+        Place::InService(id) => !has_any_service(id, records),
         Place::InProgram(id) => !has_service(id, records),
         Place::InComponent(id, pid) => !has_component(id, pid, records),
     }

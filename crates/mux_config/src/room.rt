@@ -1,15 +1,17 @@
-// The room that records leave in a section: in the NIT, in the PMT of a service, and in its entry of the SDT.
-ghost use Rattle.std.specs.Prelude.{◌≡◌, ◌+◌, length, nat_lt, if◌then◌else◌};
+// The room that records leave in a section: of the NIT with the entry of a stream, of the PMT of a service, and of the SDT with its entry.
+ghost use Rattle.std.specs.Prelude.{◌≡◌, ◌+◌, ◌==◌, ◌&&◌, length, nat_lt, if◌then◌else◌};
+ghost use Rattle.std.specs.List.{list_any};
 ghost use Rattle.guide_model.specs.Descriptors.{descriptors_size};
+ghost use Rattle.mux_lines.specs.declared.record.Numbered.{Numbered};
 ghost use Rattle.mux_model.specs.Rooms.{cable_size, language_size};
 ghost use Rattle.mux_config.specs.Kinds.{bytes_in, left_of};
-ghost use Rattle.mux_config.specs.Taken.{is_full, is_full_at, network_bytes, passes_network, passes_program, passes_service, program_bytes, service_bytes, sum_of};
+ghost use Rattle.mux_config.specs.Taken.{is_full, is_full_at, other_bytes, own_bytes, passes_each, passes_of, passes_other, passes_own, passes_program, passes_service, program_bytes, service_bytes, sum_of};
 
 use guide_model::{Cable, RawDesc, coded_len};
 use mux_lines::{Numbered, Place, Record};
 
-/// The most bytes of a body, and of the further descriptors of a service in the SDT; of these the NIT and a PMT have
-/// some without any record.
+/// The most bytes of a body, and of the further descriptors of a service in the SDT; of these a section of the NIT and a PMT
+/// have some without any record.
 const MOST: usize = 1_012;
 
 const MOST_OF_SERVICE: usize = 799;
@@ -18,10 +20,12 @@ const OF_NETWORK: usize = 14;
 
 const OF_PROGRAM: usize = 4;
 
-// A room: the NIT, the PMT of a service, and the entry of one in the SDT.
+// A room: a section of the NIT with the entry of the own stream, and one with that of another stream; the PMT of a service;
+// and the entry of one in the SDT.
 #[derive(Clone, Copy)]
 pub(crate) enum Room {
-    Network,
+    Own,
+    Other(u16, u16),
     Program(u16),
     Service(u16),
 }
@@ -66,23 +70,32 @@ fn language_len(language: &Option<[u8; 3]>) -> usize
     }
 }
 
-// What is left of the NIT with a record.
-fn left_of_network(left: usize, says: &Record) -> Option<usize>
-    ensures { result ≡ left_of left (network_bytes says.now) }
+// What is left of a section of the NIT with the entry of the own stream and a record.
+fn left_of_stream(left: usize, says: &Record) -> Option<usize>
+    ensures { result ≡ left_of left (own_bytes says.now) }
 {
     match says {
         Record::Network(_, name) => left_of(left, coded_len(name.as_str())),
         Record::Delivery(_) => left_of(left, 13),
         Record::Service(_) => left_of(left, 3),
-        Record::Elsewhere(_, _, cable) => left_of(left, 8 + cable_len(cable)),
-        Record::Remote(_, _, _) => left_of(left, 3),
         Record::Further(Place::InNetwork, more) => left_of_descriptors(left, more.as_slice()),
         Record::Further(Place::InStream, more) => left_of_descriptors(left, more.as_slice()),
         _ => Some(left),
     }
 }
 
-// What is left of a PMT with descriptors of the service with this id, where it is the PMT's own.
+// What is left with so many bytes in it, where they are of its own.
+fn left_of_bytes(left: usize, is_own: bool, bytes: usize) -> Option<usize>
+    ensures { result ≡ left_of left (if is_own then bytes else 0) }
+{
+    if is_own {
+        left_of(left, bytes)
+    } else {
+        Some(left)
+    }
+}
+
+// What is left with descriptors in it, where they are of its own.
 fn left_of_own(left: usize, is_own: bool, descriptors: &[RawDesc]) -> Option<usize>
     ensures { result ≡ left_of left (if is_own then descriptors_size descriptors.now else 0) }
 {
@@ -93,13 +106,23 @@ fn left_of_own(left: usize, is_own: bool, descriptors: &[RawDesc]) -> Option<usi
     }
 }
 
-fn left_of_component(left: usize, is_own: bool, language: &Option<[u8; 3]>) -> Option<usize>
-    ensures { result ≡ left_of left (if is_own then language_size language.now else 0) }
+// What is left of a section of the NIT with the entry of the other stream with these ids and a record.
+fn left_of_other(stream: u16, original: u16, left: usize, says: &Record) -> Option<usize>
+    ensures { result ≡ left_of left (other_bytes stream original says.now) }
 {
-    if is_own {
-        left_of(left, language_len(language))
-    } else {
-        Some(left)
+    match says {
+        Record::Network(_, name) => left_of(left, coded_len(name.as_str())),
+        Record::Elsewhere(id, network, cable) => {
+            left_of_bytes(left, *id == stream && *network == original, cable_len(cable))
+        }
+        Record::Remote(id, network, _) => {
+            left_of_bytes(left, *id == stream && *network == original, 3)
+        }
+        Record::Further(Place::InNetwork, more) => left_of_descriptors(left, more.as_slice()),
+        Record::Further(Place::InOther(id, network), more) => {
+            left_of_own(left, *id == stream && *network == original, more.as_slice())
+        }
+        _ => Some(left),
     }
 }
 
@@ -108,7 +131,9 @@ fn left_of_program(id: u16, left: usize, says: &Record) -> Option<usize>
     ensures { result ≡ left_of left (program_bytes id says.now) }
 {
     match says {
-        Record::Part(home, component) => left_of_component(left, *home == id, &component.language),
+        Record::Part(home, component) => {
+            left_of_bytes(left, *home == id, language_len(&component.language))
+        }
         Record::Further(Place::InProgram(home), more) => {
             left_of_own(left, *home == id, more.as_slice())
         }
@@ -135,7 +160,8 @@ fn left_by(room: Room, left: usize, says: &Record) -> Option<usize>
     ensures { result ≡ left_of left (bytes_in room says.now) }
 {
     match room {
-        Room::Network => left_of_network(left, says),
+        Room::Own => left_of_stream(left, says),
+        Room::Other(stream, original) => left_of_other(stream, original, left, says),
         Room::Program(id) => left_of_program(id, left, says),
         Room::Service(id) => left_of_service(id, left, says),
     }
@@ -162,10 +188,39 @@ fn is_past(room: Room, most: usize, records: &[Numbered], says: &Record) -> bool
     }
 }
 
-fn passes_network(records: &[Numbered], says: &Record) -> bool
-    ensures { result ≡ passes_network records.now says.now }
+fn passes_own(records: &[Numbered], says: &Record) -> bool
+    ensures { result ≡ passes_own records.now says.now }
 {
-    is_past(Room::Network, MOST - OF_NETWORK, records, says)
+    is_past(Room::Own, MOST - OF_NETWORK, records, says)
+}
+
+fn passes_other(stream: u16, original: u16, records: &[Numbered], says: &Record) -> bool
+    ensures { result ≡ passes_other stream original records.now says.now }
+{
+    is_past(Room::Other(stream, original), MOST - OF_NETWORK, records, says)
+}
+
+// The same of the other stream which an earlier record is.
+fn passes_of(records: &[Numbered], says: &Record, earlier: &Record) -> bool
+    ensures { result ≡ passes_of records.now says.now earlier.now }
+{
+    match earlier {
+        Record::Elsewhere(stream, original, _) => passes_other(*stream, *original, records, says),
+        _ => false,
+    }
+}
+
+fn passes_any(records: &[Numbered], says: &Record) -> bool
+    ensures { result ≡ list_any (λ (r : Numbered). passes_of records.now says.now r.says) records.now }
+{
+    records.iter().any(|r| passes_of(records, says, &r.says))
+}
+
+// Whether a record passes a section of the NIT with the entry of whatever stream.
+fn passes_each(records: &[Numbered], says: &Record) -> bool
+    ensures { result ≡ passes_each records.now says.now }
+{
+    passes_own(records, says) || passes_any(records, says)
 }
 
 fn passes_program(id: u16, records: &[Numbered], says: &Record) -> bool
@@ -185,10 +240,12 @@ fn is_full_at(place: Place, records: &[Numbered], says: &Record) -> bool
     ensures { result ≡ is_full_at records.now place says.now }
 {
     match place {
+        Place::InNetwork => passes_each(records, says),
+        Place::InStream => passes_own(records, says),
+        Place::InOther(stream, original) => passes_other(stream, original, records, says),
         Place::InService(id) => passes_service(id, records, says),
         Place::InProgram(id) => passes_program(id, records, says),
         Place::InComponent(id, _) => passes_program(id, records, says),
-        _ => passes_network(records, says),
     }
 }
 
@@ -197,8 +254,11 @@ pub(crate) fn is_full(records: &[Numbered], says: &Record) -> bool
     ensures { result ≡ is_full records.now says.now }
 {
     match says {
+        Record::Network(_, _) => passes_each(records, says),
         Record::Part(id, _) => passes_program(*id, records, says),
+        Record::Elsewhere(stream, original, _) => passes_other(*stream, *original, records, says),
+        Record::Remote(stream, original, _) => passes_other(*stream, *original, records, says),
         Record::Further(place, _) => is_full_at(*place, records, says),
-        _ => passes_network(records, says),
+        _ => passes_own(records, says),
     }
 }

@@ -4,8 +4,8 @@ ghost use Rattle.std.specs.Option.{unwrap_or};
 ghost use Rattle.mux_model.specs.declared.mux.MuxService.{MuxService};
 ghost use Rattle.mux_model.specs.declared.mux.Other.{Other};
 ghost use Rattle.mux_model.specs.declared.mux.RemoteService.{RemoteService};
-ghost use Rattle.mux_config.specs.Descriptions.{all_of, cable_of as the_cable, descriptors_at, said_at, is_same, with_descriptors as with_its_descriptors, ended, first, insert as inserted, is_network, is_stream, local_in, mux_with, network_in, part_in, quota_of as the_quota, rate_of as the_rate, said, service_in, services_of as the_services, start_of as the_start, stream_in, with_parts as with_its_parts, others_of as the_others, remote_of as the_remote, other_in, with_remotes as with_its_remotes};
-ghost use Rattle.mux_lines.specs.declared.record.Place.TheVariants.{InNetwork, InStream, InService, InProgram};
+ghost use Rattle.mux_config.specs.Descriptions.{all_of, cable_of as the_cable, descriptors_at, said_at, is_same, with_descriptors as with_its_descriptors, ended, first, insert as inserted, is_network, is_stream, local_in, mux_with, network_in, part_in, quota_of as the_quota, rate_of as the_rate, said, service_in, services_of as the_services, start_of as the_start, stream_in, with_parts as with_its_parts, others_of as the_others, remote_of as the_remote, other_in, with_own as with_its_own, with_remotes as with_its_remotes};
+ghost use Rattle.mux_lines.specs.declared.record.Place.TheVariants.{InNetwork, InStream, InOther, InService, InProgram};
 ghost use Rattle.mux_model.specs.Order.{all_placed, placed};
 ghost use Rattle.mux_model.specs.Sound.{comes_before, has_lower_id};
 ghost use Rattle.mux_config.specs.Kinds.{put_other, put_remote, put_service};
@@ -113,6 +113,9 @@ fn is_same(a: Place, b: Place) -> bool
     match a {
         Place::InNetwork => matches!(b, Place::InNetwork),
         Place::InStream => matches!(b, Place::InStream),
+        Place::InOther(stream, original) => {
+            matches!(b, Place::InOther(id, network) if id == stream && network == original)
+        }
         Place::InService(id) => matches!(b, Place::InService(other) if other == id),
         Place::InProgram(id) => matches!(b, Place::InProgram(other) if other == id),
         Place::InComponent(id, pid) => {
@@ -368,34 +371,60 @@ fn first_remote_above(services: &[RemoteService], id: u16) -> Option<usize>
     )
 }
 
-// Puts the service of a record at its place, where it is one of this other stream.
+// A service of another stream with its further descriptors among the records.
+fn with_own(
+    alloc: Global,
+    records: &[Numbered],
+    service: &RemoteService,
+) -> Result<RemoteService, AllocError>
+    ensures { IfOk result (λ whole. whole ≡ with_its_own records.now service.now) }
+{
+    Ok(RemoteService {
+        service: service.service,
+        feed: service.feed,
+        kind: service.kind,
+        provider: service.provider.copy()?,
+        name: service.name.copy()?,
+        descriptors: descriptors_at(alloc, records, Place::InService(service.service))?,
+    })
+}
+
+// Puts the service of a record at its place, with its further descriptors, where it is one of this other stream.
 fn take_remote(
+    alloc: Global,
+    records: &[Numbered],
     services: &mut Vec<RemoteService>,
-    stream: u16,
-    original: u16,
+    ids: (u16, u16),
     says: &Record,
 ) -> Result<(), AllocError>
-    ensures { OnOk result (services.new.items ≡ put_remote services.old.items (the_remote stream original says.now)) }
+    ensures { OnOk result (services.new.items ≡ put_remote records.now services.old.items (the_remote ids.0 ids.1 says.now)) }
 {
-    if let Some(service) = remote_of(stream, original, says) {
-        let at = remote_place(services, service);
-        services.insert(at, service.copy()?)?;
+    if let Some(service) = remote_of(ids.0, ids.1, says) {
+        let whole = with_own(alloc, records, service)?;
+        let at = remote_place(services, &whole);
+        services.insert(at, whole)?;
     }
     Ok(())
 }
 
-// The services of another stream, in ascending order.
+// The services of another stream, in ascending order, each with its further descriptors.
 fn remotes_of(
     alloc: Global,
     records: &[Numbered],
     stream: u16,
     original: u16,
 ) -> Result<RemoteServices, AllocError>
-    ensures { IfOk result (λ services. services ≡ all_placed has_lower_id (all_of (the_remote stream original) records.now) []) }
+    ensures { IfOk result (λ services. services ≡ map (with_its_own records.now) (all_placed has_lower_id (all_of (the_remote stream original) records.now) [])) }
 {
     let mut services = Vec::new(alloc);
     'records: for i in 0..records.len() {
-        take_remote(&mut services, stream, original, &records[i].says)?;
+        take_remote(
+            alloc,
+            records,
+            &mut services,
+            (stream, original),
+            &records[i].says,
+        )?;
     }
     Ok(Items::of(services))
 }
@@ -422,7 +451,7 @@ fn first_other_above(others: &[Other], stream: u16, original: u16) -> Option<usi
     )
 }
 
-// Puts the other stream of a record, where it is one, at its place, with its services.
+// Puts the other stream of a record, where it is one, at its place, with its services and its further descriptors.
 fn take_other(
     alloc: Global,
     records: &[Numbered],
@@ -437,6 +466,7 @@ fn take_other(
             original: *original,
             cable: *cable,
             services: remotes_of(alloc, records, *stream, *original)?,
+            descriptors: descriptors_at(alloc, records, Place::InOther(*stream, *original))?,
         };
         let at = other_place(others, &other);
         others.insert(at, other)?;
@@ -444,7 +474,7 @@ fn take_other(
     Ok(())
 }
 
-// The other streams, in ascending order, each with its services.
+// The other streams, in ascending order, each with its services and its further descriptors.
 fn others_of(alloc: Global, records: &[Numbered]) -> Result<Others, AllocError>
     ensures { IfOk result (λ others. others ≡ the_others records.now) }
 {

@@ -19,6 +19,7 @@ use Rattle.mux_model.specs.declared.mux.MuxService.{MuxService}
 use Rattle.mux_model.specs.declared.mux.RemoteService.{RemoteService}
 use Rattle.mux_model.specs.Sound.{AreDifferent, Between, HasSoundLanguage, IsSoundCable, IsSoundComponent, IsSoundRemote, IsSoundService, farthest}
 use Rattle.mux_lines.specs.declared.rows.Numbers.{Numbers}
+use Rattle.mux_lines.specs.declared.rows.RemoteNumbers.{RemoteNumbers}
 use Rattle.mux_lines.specs.declared.record.Place.{Place}
 use Rattle.mux_lines.specs.declared.record.Place.TheVariants.{InNetwork, InStream}
 use Rattle.mux_lines.specs.declared.record.Record.{Record}
@@ -27,9 +28,9 @@ use Rattle.mux_lines.specs.declared.record.RecordFound.{RecordFound}
 use Rattle.mux_lines.specs.declared.record.RecordFound.TheVariants.{NoRecord, Is}
 use Rattle.mux_lines.specs.Found.{found_with, within}
 use Rattle.input_lines.specs.Groups.{descriptors_in}
-use Rattle.mux_lines.specs.Further.{are_free, component_place, further_of, in_loop, made_in, of_component, of_id, program_place, service_place}
+use Rattle.mux_lines.specs.Further.{are_free, component_place, further_of, in_loop, made_in, of_id, of_pair, other_place, program_place, service_place}
 use Rattle.input_lines.proofs.GroupFacts.{IsRead, each_read}
-use Rattle.mux_lines.specs.Fields.{are_ids, cabled_in, is_remote_in_range, other_by, other_in, remote_by, remote_in, cable_with, found_fields, found_in, found_line, is_language, is_letter, is_service_in_range, language_of, network_in, stream_in, cable_in, numbers_in, service_of, service_in, bare_service, part_in, is_capital, country_of, side_of, offset_with, offset_in, start_with, start_in, quota_in, rate_in}
+use Rattle.mux_lines.specs.Fields.{are_ids, cabled_in, is_remote_in_range, other_by, other_in, remote_by, remote_in, remote_numbers_in, remote_of, cable_with, found_fields, found_in, found_line, is_language, is_letter, is_service_in_range, language_of, network_in, stream_in, cable_in, numbers_in, service_of, service_in, bare_service, part_in, is_capital, country_of, side_of, offset_with, offset_in, start_with, start_in, quota_in, rate_in}
 use Rattle.mux_lines.specs.Fine.{IsFine, IsFineFound}
 
 -- ---- numbers in their ranges
@@ -151,8 +152,9 @@ fine_cabled : (stream original frequency modulation rate outer inner : List ℕ)
 fine_cabled stream original frequency modulation rate outer inner =
     fine_with (numeral_of stream) _ (λ s. fine_with (numeral_of original) _ (λ o. fine_by s o (cable_in frequency modulation rate outer inner) (fine_cable frequency modulation rate outer inner)))
 
-sound_remote : (s : RemoteService) → is_remote_in_range s ≡ true → IsSoundRemote s
-sound_remote s e =
+-- a service of another stream that has no further descriptors yet
+sound_remote : (s : RemoteService) → s.descriptors ≡ [] → is_remote_in_range s ≡ true → IsSoundRemote s
+sound_remote s bare e =
     let numbers = first_true (in_range 1 65535 s.service && (in_range 1 16 s.feed && in_range 0 255 s.kind)) (in_range 0 100 (coded_size s.provider) && in_range 1 100 (coded_size s.name)) e in
     let names = second_true (in_range 1 65535 s.service && (in_range 1 16 s.feed && in_range 0 255 s.kind)) (in_range 0 100 (coded_size s.provider) && in_range 1 100 (coded_size s.name)) e in
     let feeds = second_true (in_range 1 65535 s.service) (in_range 1 16 s.feed && in_range 0 255 s.kind) numbers in
@@ -161,13 +163,17 @@ sound_remote s e =
       feed = bounds 1 16 s.feed (first_true (in_range 1 16 s.feed) (in_range 0 255 s.kind) feeds);
       provider = (bounds 0 100 (coded_size s.provider) (first_true (in_range 0 100 (coded_size s.provider)) (in_range 1 100 (coded_size s.name)) names)).1;
       name = bounds 1 100 (coded_size s.name) (second_true (in_range 0 100 (coded_size s.provider)) (in_range 1 100 (coded_size s.name)) names);
+      descriptors = subst (AreSoundDescriptors made_of_service) (sym bare) tt;
+      room = subst (λ (ds : List RawDesc). descriptors_size ds ≤ 799) (sym bare) (lit≤ tt);
     }
 
-fine_remote : (stream original id feed kind provider name : List ℕ) → IsKept provider → IsKept name → IsFineFound (remote_in stream original id feed kind provider name)
-fine_remote stream original id feed kind provider name p n =
-    fine_with (numeral_of stream) _ (λ s. fine_with (numeral_of original) _ (λ o. fine_with (numeral_of id) _ (λ i. fine_with (numeral_of feed) _ (λ f. fine_with (numeral_of kind) _ (λ k.
-    let service = remote_by i f k provider name in
-    fine_within (are_ids s o && is_remote_in_range service) (Remote s o service) (λ e. (sound_remote service (second_true (are_ids s o) (is_remote_in_range service) e), (p, n))))))))
+fine_remote : (o : Option RemoteNumbers) (provider name : List ℕ) → IsKept provider → IsKept name → IsFineFound (remote_of o provider name)
+fine_remote None provider name p n = tt
+fine_remote (Some numbers) provider name p n =
+    let service = remote_by numbers.service numbers.feed numbers.kind provider name in
+    let test = are_ids numbers.stream numbers.original in
+    fine_within (test && is_remote_in_range service) (Remote numbers.stream numbers.original service)
+    (λ e. (sound_remote service refl (second_true test (is_remote_in_range service) e), (p, n)))
 
 fine_part : (service kind pid language : List ℕ) → IsFineFound (part_in service kind pid language)
 fine_part service kind pid language = fine_with (numeral_of service) _ (λ s. fine_with (numeral_of kind) _ (λ k. fine_with (numeral_of pid) _ (λ p. fine_within _ _ (sound_part s k p language))))
@@ -263,9 +269,10 @@ fine_id loop id field =
     fine_if (is_word (codes "service") loop) _ _ (fine_with (numeral_of id) _ (λ n. fine_further (service_place n) field))
     (fine_if (is_word (codes "program") loop) _ NoRecord (fine_with (numeral_of id) _ (λ n. fine_further (program_place n) field)) tt)
 
-fine_component : (loop id pid field : List ℕ) → IsFineFound (of_component loop id pid field)
-fine_component loop id pid field =
-    fine_if (is_word (codes "component") loop) _ NoRecord (fine_with (numeral_of id) _ (λ n. fine_with (numeral_of pid) _ (λ p. fine_further (component_place n p) field))) tt
+fine_pair : (loop first second field : List ℕ) → IsFineFound (of_pair loop first second field)
+fine_pair loop first second field =
+    fine_if (is_word (codes "component") loop) _ _ (fine_with (numeral_of first) _ (λ n. fine_with (numeral_of second) _ (λ p. fine_further (component_place n p) field)))
+    (fine_if (is_word (codes "other") loop) _ NoRecord (fine_with (numeral_of first) _ (λ s. fine_with (numeral_of second) _ (λ o. fine_further (other_place s o) field))) tt)
 
 -- ---- lines
 
@@ -283,7 +290,7 @@ fine_in (word ∷ a ∷ b ∷ []) kept =
 fine_in (word ∷ a ∷ b ∷ c ∷ []) kept = fine_if (is_word (codes "descriptor") word) (of_id a b c) NoRecord (fine_id a b c) tt
 fine_in (word ∷ a ∷ b ∷ c ∷ d ∷ []) kept =
     fine_if (is_word (codes "component") word) (part_in a b c d) _ (fine_part a b c d)
-    (fine_if (is_word (codes "descriptor") word) (of_component a b c d) NoRecord (fine_component a b c d) tt)
+    (fine_if (is_word (codes "descriptor") word) (of_pair a b c d) NoRecord (fine_pair a b c d) tt)
 fine_in (word ∷ a ∷ b ∷ c ∷ d ∷ e ∷ []) kept = fine_if (is_word (codes "cable") word) (cable_in a b c d e) NoRecord (fine_cable a b c d e) tt
 fine_in (word ∷ a ∷ b ∷ c ∷ d ∷ e ∷ f ∷ []) kept = fine_if (is_word (codes "offset") word) (offset_in a b c d e f) NoRecord (fine_offset a b c d e f) tt
 fine_in (word ∷ a ∷ b ∷ c ∷ d ∷ e ∷ f ∷ g ∷ []) kept =
@@ -291,7 +298,7 @@ fine_in (word ∷ a ∷ b ∷ c ∷ d ∷ e ∷ f ∷ g ∷ []) kept =
     let name = kept.1.1.1.1.1.1.1.0 in
     fine_if (is_word (codes "service") word) (service_in a b c d e f g) _ (fine_service (numbers_in a b c d e) f g provider name)
     (fine_if (is_word (codes "other") word) (cabled_in a b c d e f g) _ (fine_cabled a b c d e f g)
-    (fine_if (is_word (codes "remote") word) (remote_in a b c d e f g) NoRecord (fine_remote a b c d e f g provider name) tt))
+    (fine_if (is_word (codes "remote") word) (remote_in a b c d e f g) NoRecord (fine_remote (remote_numbers_in a b c d e) f g provider name) tt))
 fine_in other kept = tt
 
 -- a line's record has every field in its range, and texts that may be kept

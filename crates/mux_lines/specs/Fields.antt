@@ -7,11 +7,12 @@ use Rattle.mux_model.specs.Sound.{farthest}
 use Rattle.mux_model.specs.declared.mux.MuxService.{MuxService}
 use Rattle.mux_model.specs.declared.mux.RemoteService.{RemoteService}
 use Rattle.mux_lines.specs.declared.rows.Numbers.{Numbers}
+use Rattle.mux_lines.specs.declared.rows.RemoteNumbers.{RemoteNumbers}
 use Rattle.mux_lines.specs.declared.record.Record.TheVariants.{Network, Stream, Delivery, Service, Part, Start, Quota, Rate, Local, Elsewhere, Remote, End}
 use Rattle.mux_lines.specs.declared.record.RecordFound.{RecordFound}
 use Rattle.mux_lines.specs.declared.record.RecordFound.TheVariants.{NoRecord, OutOfRange, Is}
 use Rattle.mux_lines.specs.Found.{spelled, within}
-use Rattle.mux_lines.specs.Further.{in_loop, of_component, of_id}
+use Rattle.mux_lines.specs.Further.{in_loop, of_id, of_pair}
 use Rattle.guide_model.specs.Coding.{coded_size}
 use Rattle.si_time.specs.Readings.{moment_in}
 
@@ -148,13 +149,22 @@ abbrev pub remote_with : ℕ → ℕ → RemoteService → RecordFound
 remote_with stream original s = within (are_ids stream original && is_remote_in_range s) (Remote stream original s)
 
 abbrev pub remote_by : ℕ → ℕ → ℕ → List ℕ → List ℕ → RemoteService
-remote_by id feed kind provider name = record { service = id; feed = feed; kind = kind; provider = provider; name = name }
+remote_by id feed kind provider name = record { service = id; feed = feed; kind = kind; provider = provider; name = name; descriptors = [] }
+
+-- the numbers of a service of another stream, where each is spelled as one
+abbrev pub remote_numbers_in : List ℕ → List ℕ → List ℕ → List ℕ → List ℕ → Option RemoteNumbers
+remote_numbers_in stream original id feed kind =
+    option_and_then (λ s. option_and_then (λ o. option_and_then (λ i. option_and_then (λ f. option_map
+    (λ k. let numbers : RemoteNumbers = record { stream = s; original = o; service = i; feed = f; kind = k } in numbers)
+    (numeral_of kind)) (numeral_of feed)) (numeral_of id)) (numeral_of original)) (numeral_of stream)
+
+abbrev pub remote_of : Option RemoteNumbers → List ℕ → List ℕ → RecordFound
+remote_of None provider name = NoRecord
+remote_of (Some n) provider name = remote_with n.stream n.original (remote_by n.service n.feed n.kind provider name)
 
 -- `remote,STREAM,ORIGINAL,ID,FEED,TYPE,PROVIDER,NAME`
 abbrev pub remote_in : List ℕ → List ℕ → List ℕ → List ℕ → List ℕ → List ℕ → List ℕ → RecordFound
-remote_in stream original id feed kind provider name =
-    spelled stream (λ s. spelled original (λ o. spelled id (λ i. spelled feed (λ f. spelled kind (λ k.
-    remote_with s o (remote_by i f k provider name))))))
+remote_in stream original id feed kind provider name = remote_of (remote_numbers_in stream original id feed kind) provider name
 
 -- a line of eight fields
 abbrev pub eight_in : List (List ℕ) → RecordFound
@@ -178,7 +188,7 @@ three_in word a b =
 abbrev pub five_in : List ℕ → List ℕ → List ℕ → List ℕ → List ℕ → RecordFound
 five_in word a b c d =
     if is_word (codes "component") word then part_in a b c d
-    else if is_word (codes "descriptor") word then of_component a b c d
+    else if is_word (codes "descriptor") word then of_pair a b c d
     else NoRecord
 
 -- what the fields of a line say, by the word in front and how many they are

@@ -6,7 +6,7 @@ use Rattle.guide_model.specs.declared.descriptor.RawDesc.{RawDesc}
 use Rattle.guide_model.specs.Descriptors.{is_free}
 use Rattle.mux_model.specs.Rooms.{made_of_network, made_of_service, made_of_stream}
 use Rattle.mux_lines.specs.declared.record.Place.{Place}
-use Rattle.mux_lines.specs.declared.record.Place.TheVariants.{InNetwork, InStream, InService, InProgram, InComponent}
+use Rattle.mux_lines.specs.declared.record.Place.TheVariants.{InNetwork, InStream, InOther, InService, InProgram, InComponent}
 use Rattle.mux_lines.specs.declared.record.Record.TheVariants.{Further}
 use Rattle.mux_lines.specs.declared.record.RecordFound.{RecordFound}
 use Rattle.mux_lines.specs.declared.record.RecordFound.TheVariants.{NoRecord, OutOfRange}
@@ -17,6 +17,7 @@ use Rattle.input_lines.specs.Groups.{descriptors_in}
 abbrev pub made_in : Place → List ℕ
 made_in InNetwork = made_of_network
 made_in InStream = made_of_stream
+made_in (InOther stream original) = made_of_stream
 made_in (InService id) = made_of_service
 made_in (InProgram id) = []
 made_in (InComponent id pid) = []
@@ -53,11 +54,15 @@ of_id loop id field =
     else if is_word (codes "program") loop then spelled id (λ n. further_of (program_place n) (descriptors_in field))
     else NoRecord
 
--- `descriptor,component,ID,PID,DESCRIPTORS`
+-- `descriptor,component,ID,PID,DESCRIPTORS` and `descriptor,other,STREAM,ORIGINAL,DESCRIPTORS`
 abbrev pub component_place : ℕ → ℕ → Option Place
 component_place n p = place_if (in_range 0 65535 n && in_range 32 8190 p) (InComponent n p)
 
-abbrev pub of_component : List ℕ → List ℕ → List ℕ → List ℕ → RecordFound
-of_component loop id pid field =
-    if is_word (codes "component") loop then spelled id (λ n. spelled pid (λ p. further_of (component_place n p) (descriptors_in field)))
+abbrev pub other_place : ℕ → ℕ → Option Place
+other_place s o = place_if (in_range 0 65535 s && in_range 0 65535 o) (InOther s o)
+
+abbrev pub of_pair : List ℕ → List ℕ → List ℕ → List ℕ → RecordFound
+of_pair loop first second field =
+    if is_word (codes "component") loop then spelled first (λ n. spelled second (λ p. further_of (component_place n p) (descriptors_in field)))
+    else if is_word (codes "other") loop then spelled first (λ s. spelled second (λ o. further_of (other_place s o) (descriptors_in field)))
     else NoRecord

@@ -2,7 +2,7 @@
 use Rattle.std.specs.Prelude.{◌≡◌, ℕ, List, [], ◌∷◌, Some, None, refl, codes}
 use Rattle.input_lines.specs.Fields.{fields_compute}
 use Rattle.guide_model.specs.declared.descriptor.RawDesc.{RawDesc}
-use Rattle.mux_lines.specs.declared.record.Place.TheVariants.{InNetwork, InService, InProgram, InComponent}
+use Rattle.mux_lines.specs.declared.record.Place.TheVariants.{InNetwork, InOther, InService, InProgram, InComponent}
 use Rattle.mux_lines.specs.declared.record.Record.TheVariants.{Further}
 use Rattle.mux_lines.specs.declared.record.RecordFound.TheVariants.{NoRecord, OutOfRange, Is}
 use Rattle.mux_lines.specs.Fields.{found_line}
@@ -82,6 +82,10 @@ of_component : found_line (codes "descriptor,component,101,258,520101 6A028042")
 unfolding fields_compute groups_compute
 of_component = refl
 
+of_other : found_line (codes "descriptor,other,2,65535,5F0400000028") ≡ Is (Further (InOther 2 65535) (desc 0x5F (0 ∷ 0 ∷ 0 ∷ 0x28 ∷ []) ∷ []))
+unfolding fields_compute groups_compute
+of_other = refl
+
 -- a place without its id, and one of another number of fields
 no_id : found_line (codes "descriptor,service,7300") ≡ NoRecord
 unfolding fields_compute groups_compute
@@ -95,6 +99,10 @@ network_with_id = refl
 made_there : found_line (codes "descriptor,stream,4103006501") ≡ OutOfRange
 unfolding fields_compute groups_compute
 made_there = refl
+
+cable_of_other : found_line (codes "descriptor,other,2,1,4400") ≡ OutOfRange
+unfolding fields_compute groups_compute
+cable_of_other = refl
 
 tag_one : found_line (codes "descriptor,stream,0100") ≡ OutOfRange
 unfolding fields_compute groups_compute
@@ -112,6 +120,10 @@ form_first = refl
 id_past : found_line (codes "descriptor,service,70000,7300") ≡ OutOfRange
 unfolding fields_compute groups_compute
 id_past = refl
+
+original_past : found_line (codes "descriptor,other,2,65536,5200") ≡ OutOfRange
+unfolding fields_compute groups_compute
+original_past = refl
 
 pid_past : found_line (codes "descriptor,component,101,31,5200") ≡ OutOfRange
 unfolding fields_compute groups_compute

@@ -1,7 +1,7 @@
 // Lines of further descriptors.
 ghost use Rattle.std.specs.Prelude.{◌≡◌, IfOk};
 ghost use Rattle.guide_model.specs.Descriptors.{is_among, is_free};
-ghost use Rattle.mux_lines.specs.Further.{are_free, component_place, further_of, in_loop, made_in, of_component, of_id, program_place, service_place};
+ghost use Rattle.mux_lines.specs.Further.{are_free, component_place, further_of, in_loop, made_in, of_id, of_pair, other_place, program_place, service_place};
 ghost use Rattle.mux_lines.specs.Found.{spelled};
 ghost use Rattle.input_lines.specs.Groups.{descriptors_in};
 
@@ -18,6 +18,7 @@ fn is_made(place: Place, tag: u8) -> bool
     match place {
         Place::InNetwork => tag == 0x40,
         Place::InStream => tag == 0x41 || tag == 0x44,
+        Place::InOther(_, _) => tag == 0x41 || tag == 0x44,
         Place::InService(_) => tag == 0x48,
         Place::InProgram(_) => false,
         Place::InComponent(_, _) => false,
@@ -57,7 +58,7 @@ fn further(place: Option<Place>, descriptors: Option<RawDescs>) -> RecordFound
     }
 }
 
-// The place of a service's entry in the SDT; of its program; of its component.
+// The place of a service's entry in the SDT; of its program; of its component; of another stream's entry in the NIT.
 fn service_place(id: u32) -> Option<Place>
     ensures { result ≡ service_place id }
 {
@@ -76,6 +77,14 @@ fn component_place(id: u32, pid: u32) -> Option<Place>
     let id = short(0, 65_535, id)?;
     let pid = short(32, 8_190, pid)?;
     Some(Place::InComponent(id, pid))
+}
+
+fn other_place(stream: u32, original: u32) -> Option<Place>
+    ensures { result ≡ other_place stream original }
+{
+    let stream = short(0, 65_535, stream)?;
+    let original = short(0, 65_535, original)?;
+    Some(Place::InOther(stream, original))
 }
 
 /// `descriptor,network,DESCRIPTORS` and `descriptor,stream,DESCRIPTORS`
@@ -130,19 +139,14 @@ pub(crate) fn of_id(
     Ok(RecordFound::NoRecord)
 }
 
-/// `descriptor,component,ID,PID,DESCRIPTORS`
-pub(crate) fn of_component(
+fn of_component(
     alloc: Global,
-    place: &Txt,
     id: &Txt,
     pid: &Txt,
     field: &Txt,
 ) -> Result<RecordFound, AllocError>
-    ensures { IfOk result (λ found. found ≡ of_component place.now id.now pid.now field.now) }
+    ensures { IfOk result (λ found. found ≡ spelled id.now (λ n. spelled pid.now (λ p. further_of (component_place n p) (descriptors_in field.now)))) }
 {
-    if !is_word(place.as_str(), "component") {
-        return Ok(RecordFound::NoRecord);
-    }
     let Some(id) = numeral(id.as_str()) else {
         return Ok(RecordFound::NoRecord);
     };
@@ -151,4 +155,41 @@ pub(crate) fn of_component(
     };
     let descriptors = descriptors_in(alloc, field.as_str())?;
     Ok(further(component_place(id, pid), descriptors))
+}
+
+fn of_other(
+    alloc: Global,
+    stream: &Txt,
+    original: &Txt,
+    field: &Txt,
+) -> Result<RecordFound, AllocError>
+    ensures { IfOk result (λ found. found ≡ spelled stream.now (λ s. spelled original.now (λ o. further_of (other_place s o) (descriptors_in field.now)))) }
+{
+    let Some(stream) = numeral(stream.as_str()) else {
+        return Ok(RecordFound::NoRecord);
+    };
+    let Some(original) = numeral(original.as_str()) else {
+        return Ok(RecordFound::NoRecord);
+    };
+    let descriptors = descriptors_in(alloc, field.as_str())?;
+    Ok(further(other_place(stream, original), descriptors))
+}
+
+/// `descriptor,component,ID,PID,DESCRIPTORS` and `descriptor,other,STREAM,ORIGINAL,DESCRIPTORS`
+pub(crate) fn of_pair(
+    alloc: Global,
+    place: &Txt,
+    first: &Txt,
+    second: &Txt,
+    field: &Txt,
+) -> Result<RecordFound, AllocError>
+    ensures { IfOk result (λ found. found ≡ of_pair place.now first.now second.now field.now) }
+{
+    if is_word(place.as_str(), "component") {
+        return of_component(alloc, first, second, field);
+    }
+    if is_word(place.as_str(), "other") {
+        return of_other(alloc, first, second, field);
+    }
+    Ok(RecordFound::NoRecord)
 }

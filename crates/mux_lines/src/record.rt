@@ -3,12 +3,14 @@ use guide_model::{Cable, Component, Offset, RawDescs, Txt};
 use mux_model::{MuxService, RemoteService};
 use si_time::Moment;
 
-/// Where further descriptors stand: in the first loop of the NIT; in its entry of the own stream; in the entry of the
-/// service with this id in the SDT; in the first loop of its PMT; in the entry of its component with this PID.
+/// Where further descriptors stand: in the first loop of the NIT; in its entry of the own stream; in its entry of another
+/// stream with this id and original network; in the entry of the service with this id in the SDT; in the first loop of its
+/// PMT; in the entry of its component with this PID.
 #[derive(Clone, Copy)]
 pub enum Place {
     InNetwork,
     InStream,
+    InOther(u16, u16),
     InService(u16),
     InProgram(u16),
     InComponent(u16, u16),

@@ -3,9 +3,9 @@ ghost use Rattle.std.specs.Prelude.{◌≡◌, ◌<◌, ◌∷◌, [], true, fal
 ghost use Rattle.guide_model.specs.Coding.{coded_size};
 ghost use Rattle.input_lines.specs.Numbers.{in_range};
 ghost use Rattle.mux_model.specs.Sound.{farthest};
-ghost use Rattle.mux_lines.specs.Fields.{network_in, stream_in, cable_in, delivery_with, are_ids, other_in, other_by, cabled_in, remote_with, remote_by, remote_in, eight_in, five_in, three_in, numbers_in, service_with, service_of as numbers_service, bare_service, is_letter as is_small_letter, is_language as is_a_language, language_of, part_in, is_capital, country_of, side_of, offset_with, offset_in, start_in, quota_in, rate_in, found_in, found_line};
+ghost use Rattle.mux_lines.specs.Fields.{network_in, stream_in, cable_in, delivery_with, are_ids, other_in, other_by, cabled_in, remote_with, remote_by, remote_numbers_in, remote_of as numbers_remote, eight_in, five_in, three_in, numbers_in, service_with, service_of as numbers_service, bare_service, is_letter as is_small_letter, is_language as is_a_language, language_of, part_in, is_capital, country_of, side_of, offset_with, offset_in, start_in, quota_in, rate_in, found_in, found_line};
 
-use crate::further::{in_loop, of_component, of_id};
+use crate::further::{in_loop, of_id, of_pair};
 use crate::numbers::{byte, is_in, short};
 use crate::record::{Record, RecordFound};
 use guide_model::{Cable, Component, Components, Offset, RawDescs, Txt, coded_len};
@@ -491,7 +491,12 @@ struct RemoteNumbers {
 }
 
 // The service of another stream of these numbers.
-fn remote_of(numbers: RemoteNumbers, provider: &Txt, name: &Txt) -> Result<RecordFound, AllocError>
+fn remote_of(
+    alloc: Global,
+    numbers: RemoteNumbers,
+    provider: &Txt,
+    name: &Txt,
+) -> Result<RecordFound, AllocError>
     ensures { IfOk result (λ found. found ≡ remote_with numbers.stream numbers.original (remote_by numbers.service numbers.feed numbers.kind provider.now name.now)) }
 {
     let Some((stream, original)) = ids(numbers.stream, numbers.original) else {
@@ -518,45 +523,48 @@ fn remote_of(numbers: RemoteNumbers, provider: &Txt, name: &Txt) -> Result<Recor
         kind,
         provider: provider.copy()?,
         name: name.copy()?,
+        descriptors: RawDescs::new(alloc),
     };
     Ok(RecordFound::Is(Record::Remote(stream, original, service)))
 }
 
-// `remote,STREAM,ORIGINAL,ID,FEED,TYPE,PROVIDER,NAME`
-fn remote(
+// The numbers of a service of another stream, where each is spelled as one.
+fn remote_numbers(
     stream: &Txt,
     original: &Txt,
     id: &Txt,
     feed: &Txt,
     kind: &Txt,
-    provider: &Txt,
-    name: &Txt,
-) -> Result<RecordFound, AllocError>
-    ensures { IfOk result (λ found. found ≡ remote_in stream.now original.now id.now feed.now kind.now provider.now name.now) }
+) -> Option<RemoteNumbers>
+    ensures { result ≡ remote_numbers_in stream.now original.now id.now feed.now kind.now }
 {
-    let Some(stream) = numeral(stream.as_str()) else {
-        return Ok(RecordFound::NoRecord);
-    };
-    let Some(original) = numeral(original.as_str()) else {
-        return Ok(RecordFound::NoRecord);
-    };
-    let Some(service) = numeral(id.as_str()) else {
-        return Ok(RecordFound::NoRecord);
-    };
-    let Some(feed) = numeral(feed.as_str()) else {
-        return Ok(RecordFound::NoRecord);
-    };
-    let Some(kind) = numeral(kind.as_str()) else {
-        return Ok(RecordFound::NoRecord);
-    };
-    let numbers = RemoteNumbers {
+    let stream = numeral(stream.as_str())?;
+    let original = numeral(original.as_str())?;
+    let service = numeral(id.as_str())?;
+    let feed = numeral(feed.as_str())?;
+    let kind = numeral(kind.as_str())?;
+    Some(RemoteNumbers {
         stream,
         original,
         service,
         feed,
         kind,
-    };
-    remote_of(numbers, provider, name)
+    })
+}
+
+// The service of another stream of numbers that are spelled.
+fn remote(
+    alloc: Global,
+    numbers: Option<RemoteNumbers>,
+    provider: &Txt,
+    name: &Txt,
+) -> Result<RecordFound, AllocError>
+    ensures { IfOk result (λ found. found ≡ numbers_remote numbers provider.now name.now) }
+{
+    match numbers {
+        Some(numbers) => remote_of(alloc, numbers, provider, name),
+        None => Ok(RecordFound::NoRecord),
+    }
 }
 
 // The record of two fields after its word.
@@ -609,7 +617,7 @@ fn record_of_four(
         return Ok(part(alloc, a, b, c, d));
     }
     if is_word(word.as_str(), "descriptor") {
-        return of_component(alloc, a, b, c, d);
+        return of_pair(alloc, a, b, c, d);
     }
     Ok(RecordFound::NoRecord)
 }
@@ -659,7 +667,7 @@ fn record_of_seven(alloc: Global, fields: &[Txt]) -> Result<RecordFound, AllocEr
         return Ok(cabled(a, b, c, d, e, f, g));
     }
     if is_word(word.as_str(), "remote") {
-        return remote(a, b, c, d, e, f, g);
+        return remote(alloc, remote_numbers(a, b, c, d, e), f, g);
     }
     Ok(RecordFound::NoRecord)
 }

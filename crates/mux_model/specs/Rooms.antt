@@ -40,19 +40,19 @@ component_size c = language_size c.language + descriptors_size c.descriptors
 abbrev pub program_size : MuxService → ℕ
 program_size s = 4 + descriptors_size s.program_descriptors + sum_by component_size s.components
 
--- ---- room in the NIT
+-- ---- room in the NIT, of which each section has the name and the further descriptors of the network, and at least one entry of a stream
 
 abbrev pub cable_size : Option Cable → ℕ
 cable_size None = 0
 cable_size (Some cable) = 13
 
--- another stream: its fields, its cable delivery and its services
-abbrev pub other_size : Other → ℕ
-other_size o = 8 + cable_size o.cable + 3 * length o.services
+-- what each section has: both lengths, the name of the network behind its tag and length, and its further descriptors
+abbrev pub front_size : Mux → ℕ
+front_size mux = 6 + coded_size mux.network_name + descriptors_size mux.network_descriptors
 
--- the body of the NIT: both lengths, the name of the network behind its tag and length and its further descriptors, this stream with its
--- own, and the other streams
-abbrev pub network_size : Mux → ℕ
-network_size mux =
-    6 + coded_size mux.network_name + descriptors_size mux.network_descriptors
-    + (8 + cable_size mux.cable + 3 * length mux.services + descriptors_size mux.stream_descriptors) + sum_by other_size mux.others
+-- the entry of this stream, and that of another: its fields, its cable delivery, its services and its further descriptors
+abbrev pub own_size : Mux → ℕ
+own_size mux = 8 + cable_size mux.cable + 3 * length mux.services + descriptors_size mux.stream_descriptors
+
+abbrev pub other_size : Other → ℕ
+other_size o = 8 + cable_size o.cable + 3 * length o.services + descriptors_size o.descriptors

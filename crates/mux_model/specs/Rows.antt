@@ -48,4 +48,5 @@ row_sound = record {
   network_descriptors = tt;
   stream_descriptors = tt;
   network_room = lit≤ tt;
+  others_room = tt;
 }

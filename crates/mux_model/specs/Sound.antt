@@ -1,6 +1,6 @@
 -- A sound multiplex: every value in its range, and nothing that has to be single stands twice. What the types of the fields
 -- bound already (16 bits of an id, 8 of a type) is not said again.
-use Rattle.std.specs.Prelude.{◌≡◌, ◌≢◌, ℕ, ◌*◌, ◌<◌, ◌≤◌, Bool, false, ◌==◌, ◌&&◌, ◌||◌, nat_lt, bytes_eq, if◌then◌else◌, List, [], ◌∷◌, ◌++◌, length, Option, Some, None, map}
+use Rattle.std.specs.Prelude.{◌≡◌, ◌≢◌, ℕ, ◌+◌, ◌*◌, ◌<◌, ◌≤◌, Bool, false, ◌==◌, ◌&&◌, ◌||◌, nat_lt, bytes_eq, if◌then◌else◌, List, [], ◌∷◌, ◌++◌, length, Option, Some, None, map}
 use Rattle.std.specs.List.{AllByRecursion, flat_map}
 use Rattle.guide_model.specs.declared.offset.Offset.{Offset}
 use Rattle.guide_model.specs.declared.stream.Cable.{Cable}
@@ -11,7 +11,7 @@ use Rattle.mux_model.specs.declared.mux.RemoteService.{RemoteService}
 use Rattle.mux_model.specs.declared.mux.Other.{Other}
 use Rattle.mux_model.specs.declared.mux.Mux.{Mux}
 use Rattle.mux_model.specs.Order.{DoCome}
-use Rattle.mux_model.specs.Rooms.{made_of_component, made_of_network, made_of_service, made_of_stream, network_size, program_size}
+use Rattle.mux_model.specs.Rooms.{made_of_component, made_of_network, made_of_service, made_of_stream, front_size, other_size, own_size, program_size}
 use Rattle.guide_model.specs.Descriptors.{descriptors_size, AreSoundDescriptors}
 
 abbrev pub Between : ℕ → ℕ → ℕ → Type 0
@@ -111,6 +111,9 @@ pub record IsSoundRemote (s : RemoteService) : Type 0 where
   pub feed : Between 1 16 s.feed
   pub provider : coded_size s.provider ≤ 100
   pub name : Between 1 100 (coded_size s.name)
+  -- its further descriptors, with the room that an own service has in the SDT
+  pub descriptors : AreSoundDescriptors made_of_service s.descriptors
+  pub room : descriptors_size s.descriptors ≤ 799
 
 -- one service comes before another by its id
 abbrev pub has_lower_id : RemoteService → RemoteService → Bool
@@ -120,6 +123,7 @@ pub record IsSoundOther (o : Other) : Type 0 where
   pub cable : HasSoundCable o.cable
   pub services : AllByRecursion IsSoundRemote o.services
   pub ascend : DoCome has_lower_id o.services
+  pub descriptors : AreSoundDescriptors made_of_stream o.descriptors
 
 -- one stream comes before another by transport_stream_id, and then by original_network_id
 abbrev pub comes_before : Other → Other → Bool
@@ -161,10 +165,11 @@ pub record IsSound (mux : Mux) : Type 0 where
   pub apart :
       AllByRecursion (λ pmt. AllByRecursion (λ pid. pmt ≢ pid) (all_component_pids mux.services)) (pmt_pids mux.services)
   pub others : AreSoundOthers mux
-  -- the further descriptors of the NIT, which has one section
+  -- the further descriptors of the NIT, of which a section has room for the entry of each stream
   pub network_descriptors : AreSoundDescriptors made_of_network mux.network_descriptors
   pub stream_descriptors : AreSoundDescriptors made_of_stream mux.stream_descriptors
-  pub network_room : network_size mux ≤ 1012
+  pub network_room : front_size mux + own_size mux ≤ 1012
+  pub others_room : AllByRecursion (λ (o : Other). front_size mux + other_size o ≤ 1012) mux.others
 
 -- the ids of another stream are of 16 bits
 pub record HasStreamIds (o : Other) : Type 0 where

@@ -27,7 +27,8 @@ pub struct MuxService {
 pub type MuxServices = Items<MuxService>;
 
 /// A service of another stream: its service_id, the number of the feed that edits it, its
-/// service_type (EN 300 468, 6.2.33) and its first names.
+/// service_type (EN 300 468, 6.2.33), its first names, and the further descriptors that its entry of
+/// the SDT of that stream has.
 #[derive(Drop)]
 pub struct RemoteService {
     pub service: u16,
@@ -35,19 +36,22 @@ pub struct RemoteService {
     pub kind: u8,
     pub provider: Txt,
     pub name: Txt,
+    pub descriptors: RawDescs,
 }
 
 /// Services of another stream, in ascending order of their ids.
 pub type RemoteServices = Items<RemoteService>;
 
 /// Another stream of the network (EN 300 468, 5.2.1): its transport_stream_id, its
-/// original_network_id, its cable delivery where it is given, and its services.
+/// original_network_id, its cable delivery where it is given, its services, and the further
+/// descriptors that its entry of the NIT has.
 #[derive(Drop)]
 pub struct Other {
     pub stream: u16,
     pub original: u16,
     pub cable: Option<Cable>,
     pub services: RemoteServices,
+    pub descriptors: RawDescs,
 }
 
 /// Other streams, in ascending order of transport_stream_id and then original_network_id.
@@ -101,6 +105,7 @@ impl Copies for RemoteService {
             kind: self.kind,
             provider: self.provider.copy()?,
             name: self.name.copy()?,
+            descriptors: self.descriptors.copy()?,
         })
     }
 }
@@ -112,6 +117,7 @@ impl Copies for Other {
             original: self.original,
             cable: self.cable,
             services: self.services.copy()?,
+            descriptors: self.descriptors.copy()?,
         })
     }
 }

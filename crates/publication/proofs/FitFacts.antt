@@ -13,7 +13,7 @@ use Rattle.mux_model.specs.declared.mux.MuxService.{MuxService}
 use Rattle.mux_model.specs.declared.mux.Other.{Other}
 use Rattle.mux_model.specs.declared.mux.Mux.{Mux}
 use Rattle.mux_model.specs.Order.{DoCome}
-use Rattle.mux_model.specs.Sound.{IsSound, IsSoundService, DoAscend, AreDifferent, comes_before}
+use Rattle.mux_model.specs.Sound.{IsSound, IsSoundOther, IsSoundService, DoAscend, AreDifferent, comes_before}
 use Rattle.guide_limits.specs.Events.{midnight, block_of}
 use Rattle.guide_limits.specs.Limits.{IsServiceWithin, AreWithin, IsGuideWithin}
 use Rattle.si_lists.specs.Runs.{longest_runs}
@@ -37,19 +37,19 @@ use Rattle.publication.specs.EitLaws.{AreSmallEntries, AreEit}
 use Rattle.publication.proofs.EitFacts.{present_fit, placed_fit}
 use Rattle.publication.specs.declared.sdt.ServiceEntry.{ServiceEntry}
 use Rattle.table_bodies.specs.declared.sdt.SdtService.{SdtService}
-use Rattle.publication.specs.Sections.{single_table}
+use Rattle.publication.specs.Sections.{numbered, single_table}
 use Rattle.publication.specs.Programs.{pat_of, pat_key, pat_table, pmt_of, pmt_key, pmt_table, pmt_tables}
-use Rattle.publication.specs.Network.{nit_of, nit_key, nit_table}
+use Rattle.publication.specs.Network.{nit_key, nit_sections, nit_table}
 use Rattle.publication.specs.Parts.{own_guide, remote_guide}
-use Rattle.publication.specs.Sdt.{HasSmallDescriptors, own_entries, remote_entries, sdt_services, sdt_sections, service_size, section_body, numbered}
+use Rattle.publication.specs.Sdt.{HasSmallDescriptors, own_entries, remote_entries, sdt_services, sdt_sections, service_size, section_body}
 use Rattle.publication.specs.Tables.{sdt_key, sdt_table, present_tables, all_near_tables, all_far_tables, other_sdt_key, other_sdt_table, other_sdt_tables, bearer_of, remote_presents, remote_schedules, all_remote_presents, all_remote_schedules, near_part, far_part, tables_of}
 use Rattle.publication.specs.Laws.{HaveSmallEntries, HasSmallSentEntries, PublicationsAreFit}
 use Rattle.table_bodies.specs.Pat.{pat_body}
 use Rattle.table_bodies.specs.Pmt.{pmt_body}
-use Rattle.table_bodies.specs.Nit.{nit_body}
 use Rattle.mux_model.proofs.FedFacts.{different_parts}
 use Rattle.publication.proofs.PartFacts.{of_any, remote_of_any, own_different, remote_different, apart_parts}
-use Rattle.publication.proofs.ProgramFacts.{pat_short, pmt_short, nit_short}
+use Rattle.publication.proofs.ProgramFacts.{pat_short, pmt_short}
+use Rattle.publication.proofs.NetworkFacts.{IsNitSection, nit_fit}
 use Rattle.publication.proofs.SdtFacts.{length-body, length-numbered, ascend-numbered, services_fit, own_small, remote_small}
 
 -- ---- which tables a service has
@@ -353,6 +353,21 @@ short : (original n : ℕ) (runs : List (List SdtService)) → AllByRecursion (�
 short original n [] h = tt
 short original n (r ∷ runs) h = (omega (arith, length-body original r, h.0), short original (1 + n) runs h.1)
 
+-- the NIT, by its sections
+nit_sections-fit : (mux : Mux) → IsSound mux → IsFit (nit_table mux)
+nit_sections-fit mux sound =
+    let are = nit_fit mux sound in
+    let ss = nit_sections mux in
+    record {
+      pid = lit< tt;
+      long = refl;
+      no_fill = λ e. absurd (omega (arith, e));
+      some = are.some;
+      ascending = are.ascending;
+      bodies = All-from_recursion (λ (s : NumberedBody). length s.body ≤ longest_body 0x40) ss
+          (all_map IsNitSection (λ (s : NumberedBody). length s.body ≤ longest_body 0x40) (λ s is. is.short) ss are.bodies);
+    }
+
 -- an SDT, of this stream or of another, by its sections
 sdt_sections-fit : (key : Key) (tier : Tier3) (original : ℕ) (guide : Guide) (entries : List ServiceEntry) → IsGuideWithin guide → AllByRecursion HasSmallDescriptors entries → key.pid < 8191 → has_short_form key.table ≡ false → longest_body key.table ≡ 1012
     → key.table < 0x47 → IsFit (record { key = key; tier = tier; sections = sdt_sections original guide entries })
@@ -400,18 +415,21 @@ IsSmall s = AreSmallEntries s.events × CanBePlaced (map at_of s.events)
 none_within : AreWithin []
 none_within = record { apart = tt; few = omega arith; each = tt; blocks = λ block. omega arith }
 
--- another stream, by the services of which there is not more than a section of them, and by their parts
+-- another stream, and what its services have in a guide
 record HasSmall (guide : Guide) (o : Other) : Type 0 where
+  sound : IsSoundOther o
   parts : AllByRecursion IsSmall (remote_guide guide o)
 
-others_small : (guide : Guide) → IsGuideWithin guide → (os : List Other) → AllByRecursion (λ (o : Other). HaveSmallEntries (remote_guide guide o)) os → AllByRecursion (HasSmall guide) os
-others_small guide within os small =
-    all_map (λ (o : Other). HaveSmallEntries (remote_guide guide o)) (HasSmall guide)
-    (λ o entries. record {
+others_small : (guide : Guide) → IsGuideWithin guide → (os : List Other) → AllByRecursion IsSoundOther os → AllByRecursion (λ (o : Other). HaveSmallEntries (remote_guide guide o)) os
+    → AllByRecursion (HasSmall guide) os
+others_small guide within os sound small =
+    all_two IsSoundOther (λ (o : Other). HaveSmallEntries (remote_guide guide o)) (HasSmall guide)
+    (λ o is entries. record {
+      sound = is;
       parts = all_two (λ (s : ServiceGuide). AreWithin s.events) (λ (s : ServiceGuide). AreSmallEntries s.events) IsSmall (λ s w t. (t, events_can_be_placed s.events w t)) (remote_guide guide o)
           (remote_of_any (λ (s : ServiceGuide). AreWithin s.events) (λ id. none_within) guide o (all_map IsServiceWithin (λ (s : ServiceGuide). AreWithin s.events) (λ s w. w.events) guide.services within.services))
           entries;
-    }) os small
+    }) os sound small
 
 -- ---- lists by the ranges of their table_ids
 
@@ -613,15 +631,15 @@ sent_fit mux guide sound within small =
     record {
       differ = all_differ mux guide sound.ascend (present_tables mux guide ++ (near_part mux guide ++ far_part mux guide)) (events_differ mux guide sound) (in_events mux guide);
       each = All-from_recursion IsFit (tables_of mux guide)
-          (each_sub_table IsFit IsSmall (λ (o : Other). IsSmall) (HasSmall guide) mux guide services (others_small guide within mux.others small.remote)
+          (each_sub_table IsFit IsSmall (λ (o : Other). IsSmall) (HasSmall guide) mux guide services (others_small guide within mux.others sound.others.each small.remote)
           (single_fit (pat_key mux) (pat_body (pat_of mux)) (lit< tt) (omega arith) (pat_short mux sound))
           (pmts_fit mux.services sound.services)
-          (single_fit (nit_key mux) (nit_body (nit_of mux)) (lit< tt) (omega arith) (nit_short mux sound))
+          (nit_sections-fit mux sound)
           (sdt_sections-fit (sdt_key mux) Fast mux.original guide (own_entries mux) within (own_small mux.services sound.services) (lit< tt) refl refl (omega arith))
           (λ s q. eit_fit (present_table mux at s) refl (omega arith) (omega arith) (present_fit (own mux) at s q.0))
           (λ s table q above below. eit_fit (schedule_table mux from s table) refl (omega (arith, above)) (omega (arith, below)) (placed_fit (own mux) from s table q.1))
           (record {
-            sdt = λ o r. sdt_sections-fit (other_sdt_key o) Near o.original guide (remote_entries o) within (remote_small o.services) (lit< tt) refl refl (omega arith);
+            sdt = λ o r. sdt_sections-fit (other_sdt_key o) Near o.original guide (remote_entries o) within (remote_small o.services r.sound.services) (lit< tt) refl refl (omega arith);
             parts = λ o r. r.parts;
             present = λ o s r q. eit_fit (present_of (bearer_of o) at s) refl (omega arith) (omega arith) (present_fit (bearer_of o) at s q.0);
             schedule = λ o s table r q above below. eit_fit (schedule_of (bearer_of o) from s table) refl (omega (arith, above)) (omega (arith, below)) (placed_fit (bearer_of o) from s table q.1);

@@ -1,4 +1,4 @@
--- The tables of programs and of the network have fields that fit and bodies of at most 1,012 bytes.
+-- The tables of programs have fields that fit and bodies of at most 1,012 bytes.
 use Rattle.std.proofs.Common.{◌≡◌, ℕ, ◌+◌, ◌*◌, ◌≤◌, List, [], ◌∷◌, length, map, false, ◌==◌, Option, Some, None, IfSome, refl, arith, sum_by, length-append}
 use Rattle.std.specs.List.{All, AllByRecursion, flat_map}
 use Rattle.std.proofs.lemmas.List.{length-map}
@@ -15,7 +15,7 @@ use Rattle.mux_model.specs.declared.mux.Mux.{Mux}
 use Rattle.guide_model.specs.Descriptors.{FitsDescriptor, descriptors_size, AreSoundDescriptors, IsSoundDescriptor, is_among}
 use Rattle.guide_model.specs.declared.descriptor.RawDesc.{RawDesc}
 use Rattle.guide_model.proofs.SoundFacts.{bodies_fit, none_made}
-use Rattle.mux_model.specs.Rooms.{cable_size as room_cable, component_size, language_size, made_of_component, made_of_network, made_of_stream, network_size, other_size, program_size}
+use Rattle.mux_model.specs.Rooms.{cable_size as room_cable, component_size, language_size, made_of_component, made_of_network, made_of_stream, other_size, program_size}
 use Rattle.mux_model.specs.Sound.{IsSound, IsSoundOther, remote_services, IsSoundService, IsSoundComponent, HasSoundCable, HasSoundLanguage}
 use Rattle.descriptors.proofs.Loops.{length-descriptors_bytes}
 use Rattle.descriptors.proofs.Pieces.{length-coded_text}
@@ -112,94 +112,3 @@ pmt_fits s sound = record {
       (λ c fits can. record { writable = can; language = language_fits c.language fits.language })
       s.components sound.components (components_writable s sound);
 }
-
--- ---- NIT
-
-cable_fits : (c : Option Cable) → HasSoundCable c → IfSome c FitsCable
-cable_fits None sound = tt
-cable_fits (Some c) sound = record {
-  frequency = omega (arith, sound.frequency);
-  symbol_rate = omega (arith, sound.symbol_rate);
-  fec_outer = omega (arith, sound.fec_outer);
-  fec_inner = omega (arith, sound.fec_inner);
-}
-
-pub name_fits : (mux : Mux) → IsSound mux → length (shown_bytes (nit_of mux).name) ≤ 255
-name_fits mux sound = omega (arith, length-coded_text mux.network_name, sound.network_name.1)
-
-same_cable : (c : Option Cable) → cable_size c ≡ room_cable c
-same_cable None = refl
-same_cable (Some c) = refl
-
--- none of the other streams has more than 64 services
-pub services_few : (others : List Other) → length (remote_services others) ≤ 64 → AllByRecursion (λ (o : Other). length o.services ≤ 64) others
-services_few [] few = tt
-services_few (o ∷ os) few =
-    let parts = length-append o.services (remote_services os) in
-    (omega (arith, parts, few), services_few os (omega (arith, parts, few)))
-
-other_long : (o : Other) → stream_size (other_stream o) ≡ other_size o
-other_long o = omega (arith, length-map o.services remote_kind, same_cable o.cable)
-
-others_long : (os : List Other) → sum_by stream_size (map other_stream os) ≡ sum_by other_size os
-others_long [] = refl
-others_long (o ∷ os) =
-    omega (arith, sum_by-cons stream_size (other_stream o) (map other_stream os), sum_by-cons other_size o os, other_long o, others_long os)
-
-others_fit : (others : List Other) → AllByRecursion IsSoundOther others → AllByRecursion (λ (o : Other). length o.services ≤ 64) others → AllByRecursion FitsStream (map other_stream others)
-others_fit others sound few =
-    all_to_map FitsStream other_stream others
-    (all_two IsSoundOther (λ (o : Other). length o.services ≤ 64) (λ (o : Other). FitsStream (other_stream o))
-    (λ o is small. record {
-      cable = cable_fits o.cable is.cable;
-      services = omega (arith, length-map o.services remote_kind, small);
-      bodies = All-nil FitsDescriptor;
-      room = omega (arith, length-map o.services remote_kind, small, cable_small o.cable);
-    }) others sound few)
-
--- the streams, and the whole body, are those of the room
-streams_long : (mux : Mux) → sum_by stream_size (nit_of mux).streams ≡ stream_size (stream_of mux) + sum_by other_size mux.others
-streams_long mux = omega (arith, sum_by-cons stream_size (stream_of mux) (map other_stream mux.others), others_long mux.others)
-
-own_long : (mux : Mux) → stream_size (stream_of mux) ≡ 8 + room_cable mux.cable + 3 * length mux.services + descriptors_size mux.stream_descriptors
-own_long mux = omega (arith, length-map mux.services kind_of, same_cable mux.cable)
-
-pub nit_long : (mux : Mux) → length (nit_body (nit_of mux)) ≡ network_size mux
-nit_long mux = omega (arith, nit-has_its_size (nit_of mux), length-coded_text mux.network_name, streams_long mux, own_long mux)
-
-pub nit_short : (mux : Mux) → IsSound mux → length (nit_body (nit_of mux)) ≤ 1012
-nit_short mux sound = omega (arith, nit_long mux, sound.network_room)
-
-pub streams_short : (mux : Mux) → IsSound mux → sum_by stream_size (nit_of mux).streams ≤ 1012
-streams_short mux sound = omega (arith, streams_long mux, own_long mux, sound.network_room)
-
-own_fits : (mux : Mux) → IsSound mux → FitsStream (stream_of mux)
-own_fits mux sound = record {
-  cable = cable_fits mux.cable sound.cable;
-  services = omega (arith, length-map mux.services kind_of, sound.count.1);
-  bodies = All-from_recursion FitsDescriptor mux.stream_descriptors (bodies_fit made_of_stream mux.stream_descriptors sound.stream_descriptors);
-  room = omega (arith, own_long mux, sound.network_room);
-}
-
-pub streams_fit : (mux : Mux) → IsSound mux → All FitsStream (nit_of mux).streams
-streams_fit mux sound =
-    All-from_recursion FitsStream (nit_of mux).streams (own_fits mux sound, others_fit mux.others sound.others.each (services_few mux.others sound.others.few_services))
-
-pub network_fits : (mux : Mux) → IsSound mux → HasNetworkRoom (nit_of mux)
-network_fits mux sound = omega (arith, length-coded_text mux.network_name, sound.network_room)
-
-pub network_bodies : (mux : Mux) → IsSound mux → All FitsDescriptor (nit_of mux).descriptors
-network_bodies mux sound = All-from_recursion FitsDescriptor mux.network_descriptors (bodies_fit made_of_network mux.network_descriptors sound.network_descriptors)
-
-pub nit_fits : (mux : Mux) → IsSound mux → CanBeWritten (nit_of mux)
-nit_fits mux sound = record {
-  name = name_fits mux sound;
-  bodies = network_bodies mux sound;
-  room = network_fits mux sound;
-  streams = streams_fit mux sound;
-  within = omega (arith, streams_short mux sound);
-}
-
--- no further descriptor of the stream is a cable_delivery_system
-pub no_cable : (ds : List RawDesc) → AreSoundDescriptors made_of_stream ds → AllByRecursion (λ (d : RawDesc). (d.tag == 0x44) ≡ false) ds
-no_cable ds sound = none_made made_of_stream 0x44 refl ds sound

@@ -43,19 +43,19 @@ use Rattle.publication.proofs.EitFacts.{present_fit, schedule_fit, events_name, 
 use Rattle.table_bodies.specs.Pat.{pat_body, is_pat_body}
 use Rattle.table_bodies.specs.Pmt.{pmt_body, is_pmt_body}
 use Rattle.table_bodies.proofs.Programs.{written_pats, pmt-reads_back}
-use Rattle.table_bodies.specs.Nit.{nit_body, is_nit_body}
+use Rattle.table_bodies.specs.Nit.{is_nit_body}
 use Rattle.table_bodies.specs.Sdt.{is_sdt_body}
-use Rattle.table_bodies.proofs.Networks.{written_nits}
 use Rattle.publication.specs.Sections.{single_table}
 use Rattle.publication.specs.Programs.{pat_of, pat_key, pat_table, pmt_of, pmt_key, pmt_table}
-use Rattle.publication.specs.Network.{nit_of, nit_key, nit_table}
+use Rattle.publication.specs.Network.{nit_sections, nit_key, nit_table}
 use Rattle.publication.specs.Parts.{own_guide, remote_guide}
 use Rattle.publication.specs.Sdt.{entry_of, own_entries, remote_entries, remote_entry, sdt_sections}
 use Rattle.publication.specs.Tables.{bearer_of}
 use Rattle.publication.specs.Laws.{HasPartsOf, IsReadEit, IsSdtBody, AreSdt, TellsKey, TellsItself, PublicationsTellThemselves}
 use Rattle.publication.proofs.PartFacts.{of_own, of_remote, others_have, by_ids, by_remote_ids}
 use Rattle.publication.proofs.SdtFacts.{own_small, remote_small, sdt_fit}
-use Rattle.publication.proofs.ProgramFacts.{services_few, pmt_fits, nit_fits}
+use Rattle.publication.proofs.ProgramFacts.{pmt_fits}
+use Rattle.publication.proofs.NetworkFacts.{IsNitSection, nit_fit, services_few}
 use Rattle.publication.proofs.FitFacts.{each_pmt, each_sub_table}
 
 -- ---- keys
@@ -118,12 +118,27 @@ pmt_tells s sound =
     ∙ ap (key_named pid 0x02 s.service body) (pmts_named pid above below))
     (never no_pat) (λ e. ap is_some (pmt-reads_back (pmt_of s) (pmt_fits s sound))) (never no_nit) no_sdt
 
+-- ---- the NIT
+
+nit_keyed : (network : ℕ) (s : NumberedBody) → TellsKey (key_of_fields 0x0010 0x40 network 0 0) s
+nit_keyed network s header table ext = key_by_fields 0x0010 header 0x40 network s.body table ext
+
 nit_tells : (mux : Mux) → IsSound mux → mux.network < 65536 → TellsItself (nit_table mux)
 nit_tells mux sound network =
-    let body = nit_body (nit_of mux) in
-    single_tells (nit_key mux) body (omega arith) network refl
-    (λ header table ext. key_by_fields 0x0010 header 0x40 mux.network body table ext)
-    (never refl) (never refl) (λ e. written_nits (nit_of mux) (nit_fits mux sound)) refl
+    let ss = nit_sections mux in
+    let are = nit_fit mux sound in
+    record {
+      table = omega arith;
+      ext = network;
+      last = omega (arith, last_number-from 0 ss are.numbers are.some, are.few);
+      numbered = from_zero (nit_key mux) ss refl are.some are.numbers;
+      keyed = all_map IsNitSection (TellsKey (nit_key mux)) (λ s is. nit_keyed mux.network s) ss are.bodies;
+      read = never refl;
+      pat = never refl;
+      pmt = never refl;
+      nit = λ e. all_map IsNitSection (λ (s : NumberedBody). is_nit_body s.body ≡ true) (λ s is. is.body) ss are.bodies;
+      sdt = never refl;
+    }
 
 -- ---- the SDT
 
@@ -214,6 +229,7 @@ record IsToldOther (guide : Guide) (o : Other) : Type 0 where
   stream : o.stream < 65536
   original : o.original < 65536
   few : length o.services ≤ 64
+  sound : IsSoundOther o
   parts : AllByRecursion IsTold (remote_guide guide o)
 
 present_tells : (b : Bearer) → b.stream < 65536 → b.original < 65536 → is_events 0x0012 b.present ≡ true → is_eit b.present ≡ true → b.present < 256 → (moment : ℕ) (s : ServiceGuide) → IsTold s → TellsItself (present_of b moment s)
@@ -253,6 +269,7 @@ other_told guide within small typed o ready = record {
   stream = ready.ids.stream;
   original = ready.ids.original;
   few = ready.few;
+  sound = ready.sound;
   parts = services_told (remote_guide guide o) (of_remote IsServiceWithin guide o ready.have within)
       (of_remote (λ (s : ServiceGuide). AreSmallEntries s.events) guide o ready.have small)
       (of_remote (λ (s : ServiceGuide). AllByRecursion IsTyped s.events) guide o ready.have typed)
@@ -281,7 +298,7 @@ publication_tells mux guide sound services within typed =
     (λ s table q above below. schedule_tells (own mux) sound.stream sound.original day s table above (omega (arith, below)) q)
     (record {
       sdt = λ o r. sdt_tells 0x46 o.stream o.original Near (sdt_sections o.original guide (remote_entries o)) refl (omega arith) refl r.stream
-          (sdt_fit o.original guide (remote_entries o) r.original (omega (arith, length-map o.services remote_entry, r.few)) within (remote_small o.services));
+          (sdt_fit o.original guide (remote_entries o) r.original (omega (arith, length-map o.services remote_entry, r.few)) within (remote_small o.services r.sound.services));
       parts = λ o r. r.parts;
       present = λ o s r q. present_tells (bearer_of o) r.stream r.original refl refl (omega arith) moment s q;
       schedule = λ o s table r q above below. schedule_tells (bearer_of o) r.stream r.original day s table (omega (arith, above)) (omega (arith, below)) q;

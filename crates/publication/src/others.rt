@@ -1,7 +1,7 @@
 // The sub-tables of other streams.
 ghost use Rattle.std.specs.Prelude.{◌≡◌, ◌≤◌, ◌++◌, length, IfOk, OnOk};
 ghost use Rattle.std.specs.List.{AllByRecursion};
-ghost use Rattle.mux_model.specs.Sound.{IsSound};
+ghost use Rattle.mux_model.specs.Sound.{IsSound, IsSoundOther};
 ghost use Rattle.mux_model.specs.declared.mux.Other.{Other as OtherShape};
 ghost use Rattle.guide_limits.specs.Limits.{IsGuideWithin};
 ghost use Rattle.publication.specs.Laws.{HaveSmallEntries, HasPartsOf};
@@ -33,6 +33,7 @@ pub(crate) struct OtherTables {
 // The SDT of another stream.
 fn other_sdt_table(alloc: Global, guide: &PageGuide, other: &Other) -> Result<SubTable, AllocError>
     requires few { length other.now.services ≤ 64 }
+    requires sound { IsSoundOther other.now }
     requires within { IsGuideWithin guide.now.guide }
     ensures { IfOk result (λ table. table ≡ other_sdt_table guide.now.guide other.now) }
 {

@@ -16,8 +16,8 @@
 //! `is_sdt_body` say whether a body is read, without taking memory, and `is_eit_body` without
 //! making events.
 //!
-//! `service_len` gives the size of a service's entry, for whoever splits services into sections. An
-//! event's entry has the size that `event_len` gives. `bodies_have_their_sizes` says how long the
+//! `service_len` and `stream_len` give the sizes of the entries of services and streams, for whoever
+//! splits them into sections. An event's entry has the size that `event_len` gives. `bodies_have_their_sizes` says how long the
 //! bodies of NIT and SDT are.
 //!
 //! Not promised: how much memory a body of events takes.
@@ -43,7 +43,7 @@ pub use entry::{RawEntry, split_entry};
 pub use entry_laws::entries_are_read;
 pub use event_laws::{events_are_typed, written_events_read_back};
 pub use network_laws::{bodies_have_their_sizes, written_networks_read_back};
-pub use nit::{Nit, NitStream, NitStreams, is_nit_body, read_nit, write_nit};
+pub use nit::{Nit, NitStream, NitStreams, is_nit_body, read_nit, stream_len, write_nit};
 pub use pat::{PatEntries, PatEntry, is_pat_body, read_pat, write_pat};
 pub use pmt::{HeardPmt, Pmt, is_pmt_body, read_pmt, write_pmt};
 pub use program_laws::written_programs_read_back;

@@ -65,6 +65,16 @@ pub fn write_nit(alloc: Global, nit: &Nit) -> Result<Bytes, AllocError>
     Ok(Items::of(out))
 }
 
+/// How many bytes the entry of a stream has. It has the needs of [`write_nit`], and takes no memory.
+pub fn stream_len(stream: &NitStream) -> usize
+    requires { FitsStream stream.now }
+    ensures { result ≡ stream_size stream.now }
+{
+    8 + usize::from(cable_len(&stream.cable))
+        + 3 * stream.services.len()
+        + descriptors_len(stream.descriptors.as_slice())
+}
+
 // Appends the name and the further descriptors of the network behind their length; want of memory may leave a part of them.
 fn put_network(nit: &Nit, out: &mut Vec<u8>) -> Result<(), AllocError>
     requires name { length (shown_bytes nit.now.name) ≤ 255 }

@@ -9,4 +9,4 @@ pub sdt_sections-requires-clause-small : goal.sdt_sections-requires-clause-small
 sdt_sections-requires-clause-small c =
     let other = c.args.other.now in
     subst (All HasSmallDescriptors) (sym (c.as_slice.ensures ∙ c.in_ok-services.ensures))
-    (All-from_recursion HasSmallDescriptors (remote_entries other) (remote_small other.services))
+    (All-from_recursion HasSmallDescriptors (remote_entries other) (remote_small other.services c.requires.sound.services))
