@@ -48,11 +48,16 @@ def wanted(path):
         elif word == "remote":
             services[int(line[3])] = ((int(line[1]), int(line[2])), int(line[5]), line[6], line[7])
         elif word == "descriptor":
-            further[own if line[1] == "stream" else int(line[2])] += groups(line[-1])
+            further[described(line, own)] += groups(line[-1])
         elif word == "feed" and line[2] == "put":
             events[int(line[3])][int(line[4])] = event_of(line[4:])
     streams[own] = cable
     return things(own, streams, services, events, further, at)
+
+
+def described(line, own):
+    """What a descriptor line names: a stream by its two ids, or a service by its one."""
+    return own if line[1] == "stream" else (int(line[2]), int(line[3])) if line[1] == "other" else int(line[2])
 
 
 def groups(field):

@@ -1,6 +1,6 @@
 #!/usr/bin/env python3
 """Prints a script of `play`: a multiplex with 15 other streams, 64 services on them and 8 of its own, events of all, a publish and a swap.
-The own stream, its services and a third of the events have further descriptors.
+Each stream has its delivery and a list of channels; half of the services and a third of the events have further descriptors.
 usage: describe.py [NUMBER]    another number gives other names, events and places"""
 import csv
 import datetime
@@ -15,6 +15,9 @@ LANGUAGES = ("eng", "deu", "fra", "nor")
 COMPONENTS = ("5006f50b01646575", "5006f44402656e67", "5006f30103676572", "5010f2030273776553746572656f206d6978")
 REFERENCES = ("760ac4032f4537c8032f5332", "7618c4164c6f6e672e6578616d706c652e636f6d2f456e747279")
 RATINGS = "55084445550941555409"
+# an authority of content references (TS 102 323, 6.3.1); the delivery of a stream that is on no cable: terrestrial, by T2, or by satellite
+AUTHORITY = "730b6578616d706c652e636f6d"
+DELIVERIES = ("5a0b0371f5401f8102ffffffff", "7f0404000001", "430b0114937501928602200002")
 
 
 def moment(at):
@@ -32,21 +35,38 @@ def description(chance):
     for i, (service, feed) in enumerate(services):
         lines.append(["service", service, feed, chance.choice((1, 2, 25)), 256 + i, 512 + i, "Harbour", words(chance, 3)])
         if i % 2:
-            lines.append(["descriptor", "service", service, "730b6578616d706c652e636f6d"])
-    # logical channel numbers (IEC/CENELEC TS 62216)
-    channels = "".join(f"{service:04x}{0xFC00 + i:04x}" for i, (service, _) in enumerate(services, 1))
-    lines.append(["descriptor", "stream", f"5f0400000028 83{len(channels) // 2:02x}{channels}"])
+            lines.append(["descriptor", "service", service, AUTHORITY])
+    lines.append(["descriptor", "stream", channels([service for service, _ in services])])
     streams = [(2 + i, chance.choice((1, 8))) for i in range(15)]
     chance.shuffle(streams)
     for i, pair in enumerate(streams):
         cable = [] if i % 4 == 3 else [3140000 + 80000 * i, 3 + i % 3, 68750 + i, 2, 15]
         lines.append(["other", *pair, *cable])
+    carried = {pair: [] for pair in streams}
     # the last stream stays without a service
     for service in chance.sample(range(201, 65536), 64):
-        feed = chance.randint(1, 16)
+        feed, pair = chance.randint(1, 16), chance.choice(streams[:-1])
         services.append((service, feed))
-        lines.append(["remote", *chance.choice(streams[:-1]), service, feed, chance.choice((1, 2, 22, 25)), words(chance, 2), words(chance, 4)])
+        carried[pair].append(service)
+        lines.append(["remote", *pair, service, feed, chance.choice((1, 2, 22, 25)), words(chance, 2), words(chance, 4)])
+        if service % 2:
+            lines.append(["descriptor", "service", service, AUTHORITY])
+    for i, pair in enumerate(streams):
+        lines.append(["descriptor", "other", *pair, further_of_stream(chance, i, carried[pair])])
     return lines + [["end"]], services
+
+
+def channels(services):
+    """Logical channel numbers (IEC/CENELEC TS 62216)."""
+    body = "".join(f"{service:04x}{0xFC00 + i:04x}" for i, service in enumerate(services, 1))
+    return f"5f0400000028 83{len(body) // 2:02x}{body}"
+
+
+def further_of_stream(chance, i, services):
+    """A delivery where the stream is on no cable, or else its other frequencies (EN 300 468, 6.2.17); then its channels."""
+    frequencies = "".join(f"0{chance.randint(100, 900)}0000" for _ in range(chance.randint(3, 8)))
+    where = DELIVERIES[i // 4] if i % 4 == 3 else f"62{1 + len(frequencies) // 2:02x}fe{frequencies}"
+    return " ".join([where, *([channels(services)] if services else [])])
 
 
 def private(chance):
