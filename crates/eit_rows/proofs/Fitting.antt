@@ -1,11 +1,8 @@
 -- What the tests of events, and of what tables hold, tell.
-use Rattle.std.proofs.Common.{◌≡◌, ℕ, suc, ◌+◌, ◌<◌, ◌≤◌, inl, inr, List, [], ◌∷◌, length, get_or, refl, subst, arith, eqb}
+use Rattle.std.proofs.Common.{◌≡◌, ℕ, suc, ◌+◌, ◌<◌, ◌≤◌, inl, inr, List, [], ◌∷◌, length, get_or, subst, arith, eqb}
 use Rattle.std.specs.Prelude.{sum_by}
-use Rattle.std.specs.List.{All, AllByRecursion}
+use Rattle.std.specs.List.{AllByRecursion}
 use Rattle.std.proofs.lemmas.Bool.{cases_Bool}
-use Rattle.std.proofs.lemmas.List.Elements.{All-nil}
-use Rattle.guide_model.specs.declared.descriptor.RawDesc.{RawDesc}
-use Rattle.guide_model.specs.Descriptors.{FitsDescriptor, descriptors_size}
 use Rattle.table_bodies.specs.declared.nit.NitStream.{NitStream}
 use Rattle.table_bodies.specs.Nit.{FitsStream, stream_size}
 use Rattle.std.proofs.lemmas.List.Sums.{sum_by-cons}
@@ -78,12 +75,3 @@ small_fit events small bytes block = block_fits block events small (omega (arith
 -- a stream that fits, without further descriptors
 abbrev pub IsSmallStream : NitStream → Type 0
 IsSmallStream s = FitsStream s × (stream_size s ≤ 276)
-
--- without a descriptor each fits
-pub none_fit : (ds : List RawDesc) → length ds ≡ 0 → All FitsDescriptor ds
-none_fit [] none = All-nil FitsDescriptor
-none_fit (d ∷ ds) none = cc none
-
-pub none_size : (ds : List RawDesc) → length ds ≡ 0 → descriptors_size ds ≡ 0
-none_size [] none = refl
-none_size (d ∷ ds) none = cc none

@@ -113,7 +113,11 @@ fn left_of_other(stream: u16, original: u16, left: usize, says: &Record) -> Opti
     match says {
         Record::Network(_, name) => left_of(left, coded_len(name.as_str())),
         Record::Elsewhere(id, network, cable) => {
-            left_of_bytes(left, *id == stream && *network == original, cable_len(cable))
+            left_of_bytes(
+                left,
+                *id == stream && *network == original,
+                cable_len(cable),
+            )
         }
         Record::Remote(id, network, _) => {
             left_of_bytes(left, *id == stream && *network == original, 3)
@@ -197,7 +201,12 @@ fn passes_own(records: &[Numbered], says: &Record) -> bool
 fn passes_other(stream: u16, original: u16, records: &[Numbered], says: &Record) -> bool
     ensures { result ≡ passes_other stream original records.now says.now }
 {
-    is_past(Room::Other(stream, original), MOST - OF_NETWORK, records, says)
+    is_past(
+        Room::Other(stream, original),
+        MOST - OF_NETWORK,
+        records,
+        says,
+    )
 }
 
 // The same of the other stream which an earlier record is.

@@ -139,12 +139,7 @@ pub(crate) fn of_id(
     Ok(RecordFound::NoRecord)
 }
 
-fn of_component(
-    alloc: Global,
-    id: &Txt,
-    pid: &Txt,
-    field: &Txt,
-) -> Result<RecordFound, AllocError>
+fn of_component(alloc: Global, id: &Txt, pid: &Txt, field: &Txt) -> Result<RecordFound, AllocError>
     ensures { IfOk result (λ found. found ≡ spelled id.now (λ n. spelled pid.now (λ p. further_of (component_place n p) (descriptors_in field.now)))) }
 {
     let Some(id) = numeral(id.as_str()) else {

@@ -1,35 +1,25 @@
 -- The tables of programs have fields that fit and bodies of at most 1,012 bytes.
-use Rattle.std.proofs.Common.{◌≡◌, ℕ, ◌+◌, ◌*◌, ◌≤◌, List, [], ◌∷◌, length, map, false, ◌==◌, Option, Some, None, IfSome, refl, arith, sum_by, length-append}
+use Rattle.std.proofs.Common.{◌≡◌, ℕ, ◌+◌, ◌*◌, ◌≤◌, List, [], ◌∷◌, length, map, Option, Some, None, IfSome, refl, arith, sum_by, length-append}
 use Rattle.std.specs.List.{All, AllByRecursion, flat_map}
 use Rattle.std.proofs.lemmas.List.{length-map}
 use Rattle.std.proofs.lemmas.List.Sums.{sum_by-cons}
-use Rattle.std.proofs.lemmas.Bool.Decides.{nat_tests}
-use Rattle.std.proofs.lemmas.List.Elements.{All-from_recursion, All-nil}
-use Rattle.si_lists.proofs.Lists.{all_map, all_to_map, all_two}
-use Rattle.guide_model.specs.Decoding.{shown_bytes}
-use Rattle.guide_model.specs.declared.stream.Cable.{Cable}
+use Rattle.std.proofs.lemmas.List.Elements.{All-from_recursion}
+use Rattle.si_lists.proofs.Lists.{all_two}
 use Rattle.guide_model.specs.declared.stream.Component.{Component}
 use Rattle.mux_model.specs.declared.mux.MuxService.{MuxService}
-use Rattle.mux_model.specs.declared.mux.Other.{Other}
 use Rattle.mux_model.specs.declared.mux.Mux.{Mux}
-use Rattle.guide_model.specs.Descriptors.{FitsDescriptor, descriptors_size, AreSoundDescriptors, IsSoundDescriptor, is_among}
-use Rattle.guide_model.specs.declared.descriptor.RawDesc.{RawDesc}
-use Rattle.guide_model.proofs.SoundFacts.{bodies_fit, none_made}
-use Rattle.mux_model.specs.Rooms.{cable_size as room_cable, component_size, language_size, made_of_component, made_of_network, made_of_stream, other_size, program_size}
-use Rattle.mux_model.specs.Sound.{IsSound, IsSoundOther, remote_services, IsSoundService, IsSoundComponent, HasSoundCable, HasSoundLanguage}
+use Rattle.guide_model.specs.Descriptors.{FitsDescriptor, descriptors_size}
+use Rattle.guide_model.proofs.SoundFacts.{bodies_fit}
+use Rattle.mux_model.specs.Rooms.{component_size, language_size, made_of_component, program_size}
+use Rattle.mux_model.specs.Sound.{IsSound, IsSoundService, IsSoundComponent, HasSoundLanguage}
 use Rattle.descriptors.proofs.Loops.{length-descriptors_bytes}
-use Rattle.descriptors.proofs.Pieces.{length-coded_text}
 use Rattle.descriptors.specs.Descriptors.{descriptors_bytes}
-use Rattle.descriptors.specs.CableDelivery.{FitsCable}
 use Rattle.descriptors.proofs.ServiceEntries.{length-languages_body}
 use Rattle.table_bodies.specs.declared.pat.PatEntry.{PatEntry}
 use Rattle.table_bodies.specs.Pat.{pat_body, HasPid as HasProgramPid}
 use Rattle.table_bodies.specs.Entries.{entry_bytes}
 use Rattle.table_bodies.specs.Pmt.{IsWritable, FitsComponent, FitsPmt, component_bytes, language_descriptors, pmt_body, program_entry as program_entry_of}
-use Rattle.table_bodies.proofs.Networks.{cable_small, nit-has_its_size}
-use Rattle.table_bodies.specs.Nit.{FitsStream, HasNetworkRoom, CanBeWritten, cable_size, nit_body, stream_size}
 use Rattle.publication.specs.Programs.{program_entry, pat_of, pmt_of}
-use Rattle.publication.specs.Network.{kind_of, remote_kind, stream_of, other_stream, nit_of}
 
 -- ---- PAT
 

@@ -1,4 +1,4 @@
-use Rattle.std.proofs.Common.{◌≡◌, ◌+◌, ◌++◌, ℕ, List, OnOk, length, ap, arith, append_assoc, subst, sym, ◌∙◌, true}
+use Rattle.std.proofs.Common.{◌≡◌, ◌+◌, ◌++◌, ℕ, List, OnOk, ap, arith, append_assoc, subst, sym, ◌∙◌, true}
 use Rattle.std.proofs.lemmas.Grind.{common_steps}
 use Rattle.cycle_player.specs.Clock.{reads}
 use Rattle.guide_model.specs.declared.guide.Guide.{Guide}

@@ -1,4 +1,4 @@
-use Rattle.std.proofs.Common.{◌≡◌, ◌+◌, ◌++◌, List, ℕ, append_assoc, ap, sym, ◌∙◌}
+use Rattle.std.proofs.Common.{◌+◌, ◌++◌, List, ℕ, append_assoc, ap, sym, ◌∙◌}
 use Rattle.std.specs.Prelude.{codes, flat_map}
 use Rattle.version_book.specs.Book.{given_entries}
 use Rattle.journal_text.specs.Lines.{line_text}
