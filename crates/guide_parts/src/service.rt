@@ -69,6 +69,7 @@ fn put_part_service(
         alloc,
         out,
         details,
+        service.scrambled,
         further,
         service.program_descriptors.as_slice(),
     )?;

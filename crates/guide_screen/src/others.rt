@@ -65,6 +65,7 @@ fn remote_service(
         kind: service.kind,
         provider: service.provider,
         name: service.name,
+        scrambled: service.scrambled,
         descriptors: service.descriptors,
         now,
         next,
