@@ -13,7 +13,7 @@ use crate::events::{Stream, eit_head, eit_key};
 use eit_segments::{EventAt, present_following};
 use guide_model::{Event, ServiceGuide};
 use section_codec::{NumberedBodies, NumberedBody, SubTable, tier_of};
-use si_base::Bytes;
+use si_base::SharedBytes;
 use si_time::Moment;
 use std::alloc::{AllocError, Global};
 use table_bodies::{flags_of, write_eit};
@@ -34,13 +34,19 @@ fn event_at(events: &[Event], place: Option<usize>) -> &[Event]
 }
 
 // The body of a section with this event or none.
-fn body_of(alloc: Global, of: Stream, status: u8, event: &[Event]) -> Result<Bytes, AllocError>
+fn body_of(
+    alloc: Global,
+    of: Stream,
+    status: u8,
+    event: &[Event],
+) -> Result<SharedBytes, AllocError>
     requires status { status < 8 }
     requires events { All IsCodable event.now }
     ensures { IfOk result (λ body. body ≡ eit_body (eit_head (bearer_of of) 1 (bearer_of of).present) (flags_of status of.scrambled) event.now) }
 {
     let flags = flags_of(status, of.scrambled);
-    write_eit(alloc, &eit_head(of, 1, of.present()), flags, event)
+    let body = write_eit(alloc, &eit_head(of, 1, of.present()), flags, event)?;
+    SharedBytes::of(alloc, body)
 }
 
 // The sections: 0 with the present event, 1 with the following one.

@@ -11,6 +11,7 @@ use crate::events::{Stream, eit_head, eit_key};
 use eit_segments::{EventAt, Piece, sections_in_table};
 use guide_model::{Event, ServiceGuide};
 use section_codec::{NumberedBodies, NumberedBody, SubTable, SubTables, tier_of};
+use si_base::SharedBytes;
 use si_time::Moment;
 use std::alloc::{AllocError, Global};
 use table_bodies::{flags_of, write_eit};
@@ -34,9 +35,10 @@ fn schedule_section(
 {
     let head = eit_head(of, piece.segment_last, last_table);
     let flags = flags_of(UNDEFINED, of.scrambled);
+    let body = write_eit(alloc, &head, flags, piece.events_of(events))?;
     Ok(NumberedBody {
         number: piece.number,
-        body: write_eit(alloc, &head, flags, piece.events_of(events))?,
+        body: SharedBytes::of(alloc, body)?,
     })
 }
 
