@@ -66,8 +66,7 @@ class Component(NamedTuple):
 
 @dataclass
 class Remote:
-    """A service of another stream; a type is None where no description of the service was heard. Its descriptors are those of the SDT. That it is
-    scrambled is known only with `--details`."""
+    """A service of another stream; a type is None where no description of the service was heard. Its descriptors are those of the SDT."""
 
     id: int
     type: Optional[int]
@@ -77,7 +76,6 @@ class Remote:
     following: Optional[Event] = None
     events: List[Event] = field(default_factory=list)
     descriptors: List[Descriptor] = field(default_factory=list)
-    scrambled: bool = False
 
 
 @dataclass
@@ -269,7 +267,7 @@ class Reader:
             "done": self._done, "lost": self._lost, "junk": self._junk, "clock": self._clock, "local": self._local, "network": self._network,
             "stream": self._stream, "cable": self._cable, "service": self._service, "component": self._component, "other": self._other,
             "remote": self._remote, "now": self._now, "next": self._next, "event": self._event, "wanting": self._wanting, "end": self._end,
-            "descriptor": self._descriptor, "program": self._program, "scrambled": self._scrambled,
+            "descriptor": self._descriptor, "program": self._program,
         }
 
     def take(self, line: str) -> None:
@@ -278,7 +276,7 @@ class Reader:
         if line.startswith("fault: "):
             self.heard.fault = line[len("fault: "):]
         elif word in self._words:
-            if word not in ("descriptor", "program", "scrambled"):
+            if word not in ("descriptor", "program"):
                 self._place, self._owned = word, []
             self._words[word](fields)
         elif line:
@@ -356,13 +354,6 @@ class Reader:
     def _program(self, fields: List[str]) -> None:
         self.heard.descriptors.append(read_descriptor("program", fields))
 
-    def _scrambled(self, fields: List[str]) -> None:
-        if fields:
-            raise ValueError("it has fields")
-        if self._place not in ("service", "remote"):
-            raise ValueError("no line of a service stands before it")
-        self._last_service().scrambled = True
-
     def _wanting(self, fields: List[str]) -> None:
         if not fields:
             raise ValueError("it does not say what is wanting")
@@ -412,7 +403,6 @@ def event_json(event: Event) -> Dict[str, object]:
 def remote_json(service: Remote) -> Dict[str, object]:
     return {
         "service_id": service.id, "service_type": service.type, "provider": service.provider, "name": service.name,
-        "scrambled": service.scrambled,
         "present": event_json(service.present) if service.present else None,
         "following": event_json(service.following) if service.following else None,
         "events": [event_json(event) for event in service.events],

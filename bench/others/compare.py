@@ -31,7 +31,7 @@ def duration(text):
 # ---- what the script asks for
 
 def wanted(path):
-    streams, services, events, further, scrambled, at = {}, {}, defaultdict(dict), defaultdict(tuple), set(), 0
+    streams, services, events, further, at = {}, {}, defaultdict(dict), defaultdict(tuple), 0
     own = cable = None
     for line in csv.reader(open(path, encoding="utf-8")):
         word = line[0]
@@ -49,12 +49,10 @@ def wanted(path):
             services[int(line[3])] = ((int(line[1]), int(line[2])), int(line[5]), line[6], line[7])
         elif word == "descriptor":
             further[described(line, own)] += groups(line[-1])
-        elif word == "scrambled":
-            scrambled.add(int(line[1]))
         elif word == "feed" and line[2] == "put":
             events[int(line[3])][int(line[4])] = event_of(line[4:])
     streams[own] = cable
-    return things(own, streams, services, events, further, scrambled, at)
+    return things(own, streams, services, events, further, at)
 
 
 def described(line, own):
@@ -75,14 +73,14 @@ def event_of(fields):
     return (int(fields[0]), seconds(fields[1]), duration(fields[2]), fields[3], fields[4], fields[5], fields[6], rating, genres, further)
 
 
-def things(own, streams, services, events, further, scrambled, at):
+def things(own, streams, services, events, further, at):
     out = {kind: set() for kind in KINDS}
     of_stream = defaultdict(list)
     for service, (pair, kind, provider, name) in services.items():
         pair = pair or own
         of_stream[pair].append((service, kind))
-        out["service"].add((*pair, service, service in scrambled, kind, provider, name, further[service]))
-        put_events(out, (*pair, service, service in scrambled), sorted(events[service].values(), key=lambda event: event[1]), at)
+        out["service"].add((*pair, service, kind, provider, name, further[service]))
+        put_events(out, (*pair, service), sorted(events[service].values(), key=lambda event: event[1]), at)
     for pair, cable in streams.items():
         out["stream"].add((*pair, cable, tuple(sorted(of_stream[pair])), further[pair]))
     return out
@@ -115,11 +113,6 @@ def parts(node, front):
 def text(node, name):
     field = find(node, name)
     return field.get("show") if field is not None else ""
-
-
-def is_set(node, name):
-    """Whether a flag is 1."""
-    return int(text(node, name), 16) != 0
 
 
 def tag(node):
@@ -162,8 +155,7 @@ def put_nit(out, node):
 def put_sdt(out, node):
     pair = (number(find(node, "dvb_sdt.tsid")), number(find(node, "dvb_sdt.original_nid")))
     for service in parts(node, "Service"):
-        out["service"].add((*pair, number(find(service, "dvb_sdt.svc.id")), is_set(service, "dvb_sdt.svc.free_ca_mode"),
-                            number(find(service, "mpeg_descr.svc.type")),
+        out["service"].add((*pair, number(find(service, "dvb_sdt.svc.id")), number(find(service, "mpeg_descr.svc.type")),
                             text(service, "mpeg_descr.svc.provider_name"), text(service, "mpeg_descr.svc.svc_name"),
                             further_in(service, (0x48,))))
 
@@ -173,7 +165,7 @@ def put_eit(out, node):
     service = (number(find(node, "dvb_eit.tsid")), number(find(node, "dvb_eit.original_nid")), number(find(node, "dvb_eit.sid")))
     kind = "event" if table >= 0x50 else ("now", "next")[number(find(node, "dvb_eit.sect_num"))]
     for event in parts(node, "Event "):
-        out[kind].add((*service, is_set(event, "dvb_eit.evt.free_ca_mode"), event_shown(event)))
+        out[kind].add((*service, event_shown(event)))
 
 
 def event_shown(event):
@@ -207,18 +199,18 @@ def libdvbpsi(path):
             services = tuple(tuple(int(n) for n in one.split(":")) for one in fields[8].split(" ")) if fields[8] else ()
             out[word].add((*pair, cable, services, groups(fields[9])))
         elif word == "service":
-            out[word].add((*pair, int(fields[3]), fields[4] == "1", int(fields[5]), fields[6], fields[7], groups(fields[8])))
+            out[word].add((*pair, int(fields[3]), int(fields[4]), fields[5], fields[6], groups(fields[7])))
         else:
-            out[word].add((*pair, int(fields[3]), fields[4] == "1", event_of(fields[5:])))
+            out[word].add((*pair, int(fields[3]), event_of(fields[4:])))
     return out
 
 
-# ---- what the product's own receiver prints, whose guide has no list of services of its own, and says of services only that they are scrambled
+# ---- what the product's own receiver prints, whose guide has no list of services of its own
 
 def listen(path):
     lines = [line.rstrip("\n").split("\t") for line in open(path, encoding="utf-8")]
     out = {kind: set() for kind in KINDS}
-    pair, cable, of_stream, service, scrambled, further = (0, 0), {}, defaultdict(list), 0, False, {}
+    pair, cable, of_stream, service, further = (0, 0), {}, defaultdict(list), 0, {}
     for place, (word, *fields) in enumerate(lines):
         if word in ("stream", "other"):
             pair = (int(fields[0]), int(fields[1]))
@@ -227,11 +219,11 @@ def listen(path):
         elif word == "cable":
             cable[pair], further[pair] = tuple(int(field) for field in fields), details(lines, place)
         elif word in ("service", "remote"):
-            service, scrambled = int(fields[0]), lines[place + 1] == ["scrambled"]
+            service = int(fields[0])
             of_stream[pair].append((service, int(fields[1])))
-            out["service"].add((*pair, service, scrambled, int(fields[1]), fields[2], fields[3], groups(details(lines, place + scrambled))))
+            out["service"].add((*pair, service, int(fields[1]), fields[2], fields[3], groups(details(lines, place))))
         elif word in ("now", "next", "event"):
-            out[word].add((*pair, service, scrambled, event_of(fields + [details(lines, place)])))
+            out[word].add((*pair, service, event_of(fields + [details(lines, place)])))
     out["stream"] = {(*pair, cable[pair], tuple(of_stream[pair]), groups(further[pair])) for pair in cable}
     return out
 

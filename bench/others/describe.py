@@ -1,7 +1,6 @@
 #!/usr/bin/env python3
 """Prints a script of `play`: a multiplex with 15 other streams, 64 services on them and 8 of its own, events of all, a publish and a swap.
-Each stream has its delivery and a list of channels; half of the services and a third of the events have further descriptors; a third of the
-services is scrambled.
+Each stream has its delivery and a list of channels; half of the services and a third of the events have further descriptors.
 usage: describe.py [NUMBER]    another number gives other names, events and places"""
 import csv
 import datetime
@@ -52,7 +51,6 @@ def description(chance):
         lines.append(["remote", *pair, service, feed, chance.choice((1, 2, 22, 25)), words(chance, 2), words(chance, 4)])
         if service % 2:
             lines.append(["descriptor", "service", service, AUTHORITY])
-    lines += [["scrambled", service] for service, _ in services if service % 3 == 0]
     for i, pair in enumerate(streams):
         lines.append(["descriptor", "other", *pair, further_of_stream(chance, i, carried[pair])])
     return lines + [["end"]], services

@@ -72,7 +72,7 @@ static void on_sdt(void *data, dvbpsi_sdt_t *t) {
         for (dvbpsi_descriptor_t *d = s->p_first_descriptor; d; d = d->p_next) {
             dvbpsi_service_dr_t *n = d->i_tag == 0x48 ? dvbpsi_DecodeServiceDr(d) : NULL;
             if (!n) continue;
-            printf("service\t%d\t%d\t%d\t%d\t%d\t", t->i_extension, t->i_network_id, s->i_service_id, s->b_free_ca, n->i_service_type);
+            printf("service\t%d\t%d\t%d\t%d\t", t->i_extension, t->i_network_id, s->i_service_id, n->i_service_type);
             text(n->i_service_provider_name, n->i_service_provider_name_length);
             printf("\t");
             text(n->i_service_name, n->i_service_name_length);
@@ -135,7 +135,7 @@ static const char *word_of(int table, dvbpsi_eit_event_t *e) {
 static void on_eit(void *data, dvbpsi_eit_t *t) {
     int table = (int)(intptr_t)data;
     for (dvbpsi_eit_event_t *e = t->p_first_event; e; e = e->p_next) {
-        printf("%s\t%d\t%d\t%d\t%d\t%d\t", word_of(table, e), t->i_ts_id, t->i_network_id, t->i_extension, e->b_free_ca, e->i_event_id);
+        printf("%s\t%d\t%d\t%d\t%d\t", word_of(table, e), t->i_ts_id, t->i_network_id, t->i_extension, e->i_event_id);
         put_moment(e->i_start_time);
         printf("\t%02x:%02x:%02x\t", e->i_duration >> 16 & 255, e->i_duration >> 8 & 255, e->i_duration & 255);
         put_texts(e->p_first_descriptor);

@@ -87,19 +87,6 @@ class Lines(unittest.TestCase):
                          ["network", "service", "program", "component", "now", "event", "event", "remote"])
         self.assertEqual(hash(service.events[0]), hash(remote.events[0]))
 
-    def test_scrambled_services(self) -> None:
-        """The line stands after that of a service, and before its descriptors, which it leaves to the service."""
-        lines = ["service\t101\t1\t\tOne\t256\t257", "service\t102\t1\t\tPay\t300\t301", "scrambled", "descriptor\t730162",
-                 "other\t2\t1\t\t\t\t\t", "remote\t5\t1\t\tFive", "scrambled", "descriptor\t730163", "remote\t6\t1\t\tSix"]
-        heard = read_heard(lines)
-        self.assertEqual([service.scrambled for service in [*heard.services, *heard.others[0].services]], [False, True, True, False])
-        self.assertEqual(heard.services[1].descriptors, [Descriptor("service", 0x73, b"b")])
-        self.assertEqual(heard.others[0].services[0].descriptors, [Descriptor("remote", 0x73, b"c")])
-        self.assertEqual([service["scrambled"] for service in heard_json(heard)["others"][0]["services"]], [True, False])
-        for wrong in (["scrambled"], ["service\t101\t1\t\tOne\t256\t257", "scrambled\t1"], [*LINES[:9], "scrambled"]):
-            with self.assertRaises(HeardError):
-                read_heard(wrong)
-
     def test_what_is_wanting(self) -> None:
         heard = read_heard(["wanting\tpat", "wanting\tpmt\t256\t101", "end"])
         self.assertEqual((heard.wanting, heard.is_whole), ([("pat",), ("pmt", "256", "101")], False))

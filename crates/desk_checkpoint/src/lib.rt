@@ -11,8 +11,8 @@
 //! The text has the count of publications, the clock of the air where the multiplex has a bit rate,
 //! these steps, the last version and content of each key that was on air, and the continuity
 //! counters. [`write_checkpoint`] appends that text for a desk and for a player at the end of a
-//! cycle, or nothing where memory runs out (`text`, `handed`, `kept`); [`lean_checkpoint`] gives
-//! that of a desk that keeps no journal. [`read_checkpoint`] gives exactly the checkpoint that the
+//! cycle, or nothing where memory runs out (`text`, `handed`, `kept`); [`write_lean_checkpoint`] does
+//! so for a desk that keeps no journal. [`read_checkpoint`] gives exactly the checkpoint that the
 //! lines are, as a desk and a player that go on, or the first line that may not stand there (`gives`,
 //! `start`). `Failed` comes only where a read failed. The checkpoint of a journal whose commands were
 //! read from lines, with fewer publications than 10^18, reads back whatever follows it
@@ -39,4 +39,4 @@ pub use folding_laws::{checkpoints_are_taken, checkpoints_fold_again, desks_go_o
 pub use laws::checkpoints_read_back;
 pub use read::read_checkpoint;
 pub use start::{CheckStop, Start};
-pub use text::{lean_checkpoint, write_checkpoint};
+pub use text::{write_checkpoint, write_lean_checkpoint};

@@ -12,7 +12,7 @@ use hex::FromHexError;
 use input_lines::{is_word, number, numeral};
 use journal_model::Step;
 use section_codec::{Key, NumberedBody, is_listed};
-use si_base::{Items, SharedBytes};
+use si_base::Items;
 use std::alloc::{AllocError, Global};
 use ts_packets::PidCounter;
 
@@ -160,7 +160,7 @@ fn read_section(alloc: Global, fields: &[Txt]) -> Result<Option<Part>, AllocErro
     };
     Ok(Some(Part::Section(NumberedBody {
         number: section as u8,
-        body: SharedBytes::of(alloc, Items::of(bytes))?,
+        body: Items::of(bytes),
     })))
 }
 

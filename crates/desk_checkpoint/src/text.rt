@@ -414,9 +414,8 @@ fn put_state(alloc: Global, out: &mut Vec<u8>, state: &PlayerState) -> Result<()
 
 // ---- a checkpoint
 
-/// As [`write_checkpoint`], of a desk that keeps no journal, in a list of its own. A count of
-/// publications that 64 bits cannot say is want of memory.
-pub fn lean_checkpoint(
+// A checkpoint in a list of its own.
+fn text_of(
     alloc: Global,
     desk: &LeanDesk,
     shift: u64,
@@ -434,6 +433,26 @@ pub fn lean_checkpoint(
     put_state(alloc, &mut text, &state)?;
     text.extend_from_slice(b"end\n")?;
     Ok(text)
+}
+
+/// As [`write_checkpoint`], of a desk that keeps no journal; a count of publications that 64 bits
+/// cannot say is want of memory.
+pub fn write_lean_checkpoint(
+    alloc: Global,
+    desk: &LeanDesk,
+    shift: u64,
+    player: &CyclePlayer,
+    out: &mut Vec<u8>,
+) -> Result<(), AllocError>
+    requires lean { IsLean desk.now }
+    requires at_end { player.now.left ≡ [] }
+    ensures text { (journal : List AnEntry) → StandsFor journal desk.now → OnOk result (out.new.items
+        ≡ out.old.items ++ start_text shift (stood_for journal desk.now) player.now) }
+    ensures handed { OnOk result (HandsOver player.now) }
+    ensures kept { OnErr result (out.new.items ≡ out.old.items) }
+{
+    let text = text_of(alloc, desk, shift, player)?;
+    out.extend_from_slice(&text)
 }
 
 /// Appends the checkpoint of a desk and of a player at its end, where the numbers of the desk's
@@ -457,6 +476,5 @@ pub fn write_checkpoint(
     ensures handed { OnOk result (HandsOver player.now) }
     ensures kept { OnErr result (out.new.items ≡ out.old.items) }
 {
-    let text = lean_checkpoint(alloc, desk.lean(), shift, player)?;
-    out.extend_from_slice(&text)
+    write_lean_checkpoint(alloc, desk.lean(), shift, player, out)
 }

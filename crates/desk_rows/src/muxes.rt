@@ -44,18 +44,11 @@ fn put_component(out: &mut Buffer, component: &Component) {
     put_further(out, ", ", &component.descriptors);
 }
 
-fn put_scrambled(out: &mut Buffer, scrambled: bool) {
-    if scrambled {
-        out.say(", scrambled");
-    }
-}
-
 // A service; of more than nine components their number.
 fn put_service(out: &mut Buffer, service: &MuxService) {
     let (provider, name) = (service.provider.as_str(), service.name.as_str());
     say!(out; "; service {} of feed {}, type {}", service.service, service.feed, service.kind);
     say!(out; ", PMT {}, PCR {}, \"{provider}\" \"{name}\"", service.pmt_pid, service.pcr_pid);
-    put_scrambled(out, service.scrambled);
     put_further(out, ", ", &service.descriptors);
     put_further(out, ", program ", &service.program_descriptors);
     let components = service.components.as_slice();
@@ -81,7 +74,6 @@ fn put_remote(out: &mut Buffer, service: &RemoteService) {
     let (provider, name) = (service.provider.as_str(), service.name.as_str());
     say!(out; "; remote {} of feed {}", service.service, service.feed);
     say!(out; ", type {}, \"{provider}\" \"{name}\"", service.kind);
-    put_scrambled(out, service.scrambled);
     put_further(out, ", ", &service.descriptors);
 }
 

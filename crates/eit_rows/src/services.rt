@@ -13,16 +13,12 @@ use table_bodies::{Sdt, SdtService, SdtServices, read_sdt, service_len, write_sd
 /// The bytes for entries in the body of a section: 1,024 without the header, the CRC, original_network_id and a reserved byte.
 const ROOM: usize = 1_009;
 
-// A service: its id, the flags of its schedule and of its present and following events, each its letter or `-`, and `c` after them where it
-// is scrambled, its type, its provider and its name, as `101 sp 1 "Acme" "News"`.
+// A service: its id, the flags of its schedule and of its present and following events, each its letter or `-`, its type, its provider
+// and its name, as `101 sp 1 "Acme" "News"`.
 fn service_in(row: &mut Row) -> Option<SdtService> {
     let service = row.short();
     let flags = row.word();
-    let scrambled = flags.ends_with('c');
-    if !matches!(
-        flags,
-        "sp" | "s-" | "-p" | "--" | "spc" | "s-c" | "-pc" | "--c"
-    ) {
+    if !matches!(flags, "sp" | "s-" | "-p" | "--") {
         row.refuse();
     }
     let kind = row.octet();
@@ -32,8 +28,7 @@ fn service_in(row: &mut Row) -> Option<SdtService> {
     Some(SdtService {
         service,
         schedule: flags.starts_with('s'),
-        present: matches!(flags, "sp" | "-p" | "spc" | "-pc"),
-        scrambled,
+        present: flags.ends_with('p'),
         kind,
         provider: Shown::Text(provider),
         name: Shown::Text(name),
@@ -84,8 +79,7 @@ fn put_sdt(row: &mut Row, sdt: &Sdt) {
 fn put_service(row: &mut Row, service: &SdtService) {
     let schedule = if service.schedule { "s" } else { "-" };
     let present = if service.present { "p" } else { "-" };
-    let scrambled = if service.scrambled { "c" } else { "" };
-    say!(row; " / {} {schedule}{present}{scrambled} {}", service.service, service.kind);
+    say!(row; " / {} {schedule}{present} {}", service.service, service.kind);
     put_shown(row, &service.provider);
     put_shown(row, &service.name);
 }
@@ -147,7 +141,6 @@ fn service_with(
         service: id,
         schedule: true,
         present: true,
-        scrambled: false,
         kind: 1,
         provider: Shown::Text(provider.copy()?),
         name: Shown::Text(name.copy()?),

@@ -1,7 +1,8 @@
 -- A script that is played at a desk which keeps no journal: how far it has come, what the player has counted, and why it stops.
-use Rattle.std.proofs.Common.{◌≡◌, ◌≤◌, ℕ, Bool, true, false, List, [], append-nil, sym, ap, ◌∙◌, subst, inl, inr, ◌⊎◌}
-use Rattle.std.specs.Prelude.{Option, None, Ok, Err, IfOk, Result, Vec}
+use Rattle.std.proofs.Common.{◌≡◌, ◌≤◌, ℕ, Bool, true, false, List, [], ◌++◌, append-nil, sym, ap, ◌∙◌, subst, inl, inr, ◌⊎◌}
+use Rattle.std.specs.Prelude.{Option, None, Ok, Err, OnOk, Result}
 use Rattle.std.specs.declared.alloc.AllocError.{AllocError}
+use Rattle.std.proofs.lemmas.List.{append_cancel_left}
 use Rattle.si_causes.specs.Reading.{Reading}
 use Rattle.si_causes.proofs.CauseFacts.{Rose-from}
 use Rattle.air_model.specs.Air.{Aired}
@@ -11,7 +12,7 @@ use Rattle.journal_model.specs.declared.step.Entry.{Entry}
 use Rattle.desk_core.specs.declared.lean.LeanDesk.{LeanDesk}
 use Rattle.desk_core.specs.Desks.{DeskState}
 use Rattle.desk_core.specs.Journal.{Legal}
-use Rattle.desk_core.specs.Lean.{StandsFor, stood_for}
+use Rattle.desk_core.specs.Lean.{IsLean, StandsFor, stood_for}
 use Rattle.desk_checkpoint.specs.Text.{start_text}
 use Rattle.epg_report.specs.declared.status.Status.TheVariants.{Done}
 use Rattle.journal_air.specs.OnAir.{AreAlike, HasAired, IsPlayerOf, SentCycle, airing_on, AiredTo as OnAirTo, HasAirCause as HasSendCause}
@@ -25,7 +26,7 @@ use Rattle.epg_play.specs.declared.item.ItemDone.TheVariants as item
 use Rattle.epg_play.specs.declared.played.Course.{Course}
 use Rattle.epg_play.specs.declared.stop.PlayStop.{PlayStop}
 use Rattle.epg_play.specs.declared.stop.PlayStop.TheVariants.{Air, Memory}
-use Rattle.epg_play.specs.Courses.{IsCourseText, PlaysRest}
+use Rattle.epg_play.specs.Courses.{Appended, IsCourseText, PlaysRest}
 use Rattle.epg_play.specs.Items.{IsAt, ItemDid, ItemLeft, Stands, Stays, StepAt, Went}
 use Rattle.epg_play.specs.Played.{AiredTo, HasAirCause, HasReadCause, IsItemStop, IsStopBehind, TalliedTo, send_stop}
 use Rattle.epg_play.proofs.CourseFacts.{cut_stop, went_none}
@@ -219,9 +220,13 @@ gone_none left lines before course air at first = record {
 -- ---- what the report has of a course
 
 -- the checkpoint of a desk without its journal is that of each desk for which it stands
-pub checkpoint_is : {Z : Type 0} (r : Result (Vec ℕ Z) AllocError) (course : Course)
-    → ((journal : List Entry) → StandsFor journal course.desk.desk → IfOk r (λ text. text.items ≡ start_text course.desk.shift (stood_for journal course.desk.desk) course.player))
-    → IfOk r (λ text. IsCourseText true course Done text.items)
-checkpoint_is (Ok text) course wrote =
-    λ state at. wrote state.entries at.journal ∙ ap (λ (d : DeskState). start_text course.desk.shift d course.player) (stood_is state course.desk.desk at)
-checkpoint_is (Err e) course wrote = tt
+pub checkpoint_put : (r : Result (Unit {0}) AllocError) (old new : List ℕ) (course : Course) → IsLean course.desk.desk
+    → ((journal : List Entry) → StandsFor journal course.desk.desk → OnOk r (new ≡ old ++ start_text course.desk.shift (stood_for journal course.desk.desk) course.player))
+    → OnOk r (Appended (IsCourseText true course Done) old new)
+checkpoint_put (Ok u) old new course (journal, stands) wrote = (
+  start_text course.desk.shift (stood_for journal course.desk.desk) course.player,
+  λ state at. append_cancel_left old _ _ (sym (wrote journal stands) ∙ wrote state.entries at.journal)
+      ∙ ap (λ (d : DeskState). start_text course.desk.shift d course.player) (stood_is state course.desk.desk at),
+  wrote journal stands,
+)
+checkpoint_put (Err e) old new course lean wrote = tt

@@ -152,6 +152,10 @@ pub record IsReportText (fold : Bool) (played : Played) (report : List ℕ) : Ty
   pub is : IsPlayedText fold played.course played.met text
   pub report_is : report ≡ text ++ fault_lines played.met
 
+-- such a text was appended
+abbrev pub Appended : (List ℕ → Type 0) → List ℕ → List ℕ → Type 0
+Appended Is old new = (text : List ℕ) × Is text × (new ≡ old ++ text)
+
 -- a course can be reported
 pub record IsCourse (met : Status) (course : Course) : Type 0 where
   pub ready : IsReady course.desk

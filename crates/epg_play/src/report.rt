@@ -5,10 +5,10 @@ ghost use Rattle.journal_model.specs.Steps.{AreInWindow};
 ghost use Rattle.desk_checkpoint.specs.HandedOver.{HandsOver};
 ghost use Rattle.epg_report.specs.Texts.{CanBeSaid};
 ghost use Rattle.epg_report.specs.Told.{told};
-ghost use Rattle.epg_play.specs.Courses.{Finished, HandedBy, IsCourse, IsCourseText, IsPlayedText, IsReportText, is_done, made_text};
+ghost use Rattle.epg_play.specs.Courses.{Appended, Finished, HandedBy, IsCourse, IsCourseText, IsReportText, is_done, made_text};
 
 use crate::played::{Course, Played};
-use desk_checkpoint::lean_checkpoint;
+use desk_checkpoint::write_lean_checkpoint;
 use epg_report::{Status, ended, out_of_memory, put_fault_line, put_rate_line};
 use journal_model::Entry;
 use journal_text::write_entry;
@@ -26,27 +26,26 @@ fn put_entries(alloc: Global, out: &mut Vec<u8>, entries: &[Entry]) -> Result<()
     Ok(())
 }
 
-// What is said of what was made: the text of the entries, and the line on the bit rate, where the
-// multiplex has one.
-fn made_text(alloc: Global, course: &Course) -> Result<Vec<u8>, AllocError>
+// Appends what is said of what was made: the text of the entries, and the line on the bit rate,
+// where the multiplex has one.
+fn put_made(alloc: Global, out: &mut Vec<u8>, course: &Course) -> Result<(), AllocError>
     requires { AreInWindow course.now.desk.made.items }
-    ensures { IfOk result (λ text. text.items ≡ made_text course.now) }
+    ensures { OnOk result (out.new.items ≡ out.old.items ++ made_text course.now) }
 {
-    let mut text = Vec::new(alloc);
-    put_entries(alloc, &mut text, &course.desk.made)?;
+    put_entries(alloc, out, &course.desk.made)?;
     let rate = course.desk.desk.mux().rate;
-    put_rate_line(alloc, &mut text, rate, course.player.tally())?;
-    Ok(text)
+    put_rate_line(alloc, out, rate, course.player.tally())
 }
 
-// The checkpoint.
-fn checkpoint_text(alloc: Global, course: &Course) -> Result<Vec<u8>, AllocError>
+// Appends the checkpoint.
+fn put_checkpoint(alloc: Global, out: &mut Vec<u8>, course: &Course) -> Result<(), AllocError>
     requires { IsCourse Status.Done course.now }
-    ensures text { IfOk result (λ text. IsCourseText true course.now Status.Done text.items) }
+    ensures text { OnOk result
+        (Appended (IsCourseText true course.now Status.Done) out.old.items out.new.items) }
     ensures handed { OnOk result (HandsOver course.now.player) }
 {
     let desk = &course.desk;
-    lean_checkpoint(alloc, &desk.desk, desk.shift, &course.player)
+    write_lean_checkpoint(alloc, &desk.desk, desk.shift, &course.player, out)
 }
 
 fn is_done(met: Status) -> bool
@@ -55,35 +54,25 @@ fn is_done(met: Status) -> bool
     matches!(met, Status::Done)
 }
 
-// What the report of a course has before the line of a fault.
-fn course_text(
+// Appends what the report has before the line of a fault.
+fn put_course(
     alloc: Global,
+    out: &mut Vec<u8>,
     course: &Course,
     met: Status,
     fold: bool,
-) -> Result<Vec<u8>, AllocError>
+) -> Result<(), AllocError>
     requires { IsCourse met course.now }
-    ensures text { IfOk result (λ text. IsCourseText fold course.now met text.items) }
+    ensures text { OnOk result
+        (Appended (IsCourseText fold course.now met) out.old.items out.new.items) }
     ensures handed { OnOk result (HandedBy fold met (Some course.now)) }
 {
     if !fold {
-        made_text(alloc, course)
+        put_made(alloc, out, course)
     } else if is_done(met) {
-        checkpoint_text(alloc, course)
+        put_checkpoint(alloc, out, course)
     } else {
-        Ok(Vec::new(alloc))
-    }
-}
-
-// What the report has before the line of a fault.
-fn played_text(alloc: Global, played: &Played, fold: bool) -> Result<Vec<u8>, AllocError>
-    requires { IfSome played.now.course (IsCourse played.now.met) }
-    ensures text { IfOk result (λ text. IsPlayedText fold played.now.course played.now.met text.items) }
-    ensures handed { OnOk result (HandedBy fold played.now.met played.now.course) }
-{
-    match &played.course {
-        Some(course) => course_text(alloc, course, played.met, fold),
-        None => Ok(Vec::new(alloc)),
+        Ok(())
     }
 }
 
@@ -94,7 +83,10 @@ fn report_of(alloc: Global, played: &Played, fold: bool) -> Result<Vec<u8>, Allo
     ensures text { IfOk result (λ text. IsReportText fold played.now text.items) }
     ensures handed { OnOk result (HandedBy fold played.now.met played.now.course) }
 {
-    let mut text = played_text(alloc, played, fold)?;
+    let mut text = Vec::new(alloc);
+    if let Some(course) = &played.course {
+        put_course(alloc, &mut text, course, played.met, fold)?;
+    }
     put_fault_line(alloc, &mut text, played.met)?;
     Ok(text)
 }

@@ -1,5 +1,5 @@
 -- The load that is made of a number, as values: the multiplex, what the control asks for, and the edits of each feed.
-use Rattle.std.specs.Prelude.{ℕ, ◌+◌, ◌*◌, ◌%◌, false, List, [], ◌∷◌, ◌++◌, take, map, flat_map, None, codes, decimal}
+use Rattle.std.specs.Prelude.{ℕ, ◌+◌, ◌*◌, ◌%◌, List, [], ◌∷◌, ◌++◌, take, map, flat_map, None, codes, decimal}
 use Rattle.std.specs.List.{range_with_len}
 use Rattle.si_time.specs.Moments.{moment_text, duration_text}
 use Rattle.mux_model.specs.declared.mux.MuxService.{MuxService}
@@ -26,7 +26,6 @@ soak_service i = record {
   pcr_pid = 512 + i;
   provider = codes "Maker";
   name = codes "Channel " ++ decimal i;
-  scrambled = false;
   components = [];
   descriptors = [];
   program_descriptors = [];

@@ -40,17 +40,16 @@ pub struct ScreenComponent {
 /// Components of a service, in the order in which they stand.
 pub type ScreenComponents = Items<ScreenComponent>;
 
-/// A service as it was heard: its service_id, its service_type (`kind`), the names of its provider and its own, whether the
-/// SDT says that it is scrambled (free_CA_mode), its further descriptors there, the PIDs of its PMT and its PCR where a
-/// program gives them, the further descriptors of its program, its components, its present and following event, and the
-/// events of its schedule (ISO/IEC 13818-1, 2.4.4.3 and 2.4.4.8; EN 300 468, 5.2.3, 5.2.4 and 6.2.33).
+/// A service as it was heard: its service_id, its service_type (`kind`), the names of its provider and its own, its
+/// further descriptors in the SDT, the PIDs of its PMT and its PCR where a program gives them, the further descriptors of
+/// its program, its components, its present and following event, and the events of its schedule (ISO/IEC 13818-1,
+/// 2.4.4.3 and 2.4.4.8; EN 300 468, 5.2.3, 5.2.4 and 6.2.33).
 #[derive(Drop)]
 pub struct ScreenService {
     pub service: u16,
     pub kind: u8,
     pub provider: Shown,
     pub name: Shown,
-    pub scrambled: bool,
     pub descriptors: RawDescs,
     pub pmt_pid: Option<u16>,
     pub pcr_pid: Option<u16>,
@@ -65,15 +64,14 @@ pub struct ScreenService {
 pub type ScreenServices = Items<ScreenService>;
 
 /// A service of another stream as it was heard: its service_id, its service_type (`kind`), the names of its provider
-/// and its own, whether the SDT of that stream says that it is scrambled (free_CA_mode), its further descriptors, its
-/// present and following event, and the events of its schedule (EN 300 468, 5.2.3, 5.2.4 and 6.2.33).
+/// and its own, its further descriptors, its present and following event, and the events of its schedule (EN 300 468,
+/// 5.2.3, 5.2.4 and 6.2.33).
 #[derive(Drop)]
 pub struct ScreenRemote {
     pub service: u16,
     pub kind: u8,
     pub provider: Shown,
     pub name: Shown,
-    pub scrambled: bool,
     pub descriptors: RawDescs,
     pub now: Option<ScreenEvent>,
     pub next: Option<ScreenEvent>,

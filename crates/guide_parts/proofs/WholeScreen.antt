@@ -65,7 +65,6 @@ module _ (past : List Taken) (P : Parts) (are : ArePartsOver past P) (sdt : Key)
         kind = Some s.kind;
         provider = s.provider;
         name = s.name;
-        scrambled = s.scrambled;
         descriptors = s.descriptors;
         pmt_pid = pmt_pid es s.service;
         pcr_pid = option_map (λ p. p.pcr_pid) (pmt i);

@@ -22,7 +22,6 @@ service_as_part s = record {
   kind = Some s.kind;
   provider = s.provider;
   name = s.name;
-  scrambled = s.scrambled;
   descriptors = s.descriptors;
   pmt_pid = s.pmt_pid;
   pcr_pid = s.pcr_pid;

@@ -106,10 +106,6 @@ name_by entry = unwrap_or (option_map (λ (s : SdtService). s.name) entry) (Text
 abbrev pub provider_by : Option SdtService → Shown
 provider_by entry = unwrap_or (option_map (λ (s : SdtService). s.provider) entry) (Text [])
 
--- whether it is scrambled
-abbrev pub scrambled_by : Option SdtService → Bool
-scrambled_by entry = unwrap_or (option_map (λ (s : SdtService). s.scrambled) entry) false
-
 -- and its further descriptors
 abbrev pub descriptors_by : Option SdtService → List RawDesc
 descriptors_by entry = unwrap_or (option_map (λ (s : SdtService). s.descriptors) entry) []
@@ -120,7 +116,6 @@ service_with part home l pid pmt = record {
   kind = option_map (λ (s : SdtService). s.kind) l.entry;
   provider = provider_by l.entry;
   name = name_by l.entry;
-  scrambled = scrambled_by l.entry;
   descriptors = descriptors_by l.entry;
   pmt_pid = pid;
   pcr_pid = option_map (λ p. p.pcr_pid) pmt;

@@ -21,7 +21,7 @@ part_service_line s =
 -- a service, its components, and its events
 abbrev pub part_service_text : Bool → PartService → List ℕ
 part_service_text details s =
-    part_service_line s ++ service_details details s.scrambled s.descriptors s.program_descriptors ++ flat_map (component_text details) s.components
+    part_service_line s ++ service_details details s.descriptors s.program_descriptors ++ flat_map (component_text details) s.components
     ++ optional (event_text details (codes "now")) s.now ++ optional (event_text details (codes "next")) s.next
     ++ flat_map (event_text details (codes "event")) s.events
 

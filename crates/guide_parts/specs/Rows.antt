@@ -1,5 +1,5 @@
 -- Worked screens of parts.
-use Rattle.std.specs.Prelude.{◌≡◌, ℕ, false, List, [], ◌∷◌, map, if◌then◌else◌, Option, Some, None, refl, codes}
+use Rattle.std.specs.Prelude.{◌≡◌, ℕ, List, [], ◌∷◌, map, if◌then◌else◌, Option, Some, None, refl, codes}
 use Rattle.std.specs.Str.{chars}
 use Rattle.guide_model.specs.declared.shown.Shown.{Shown}
 use Rattle.guide_model.specs.declared.shown.Shown.TheVariants.{Text}
@@ -75,7 +75,6 @@ service kind provider name pid next events = record {
   kind = kind;
   provider = provider;
   name = name;
-  scrambled = false;
   descriptors = [];
   pmt_pid = pid;
   pcr_pid = None;

@@ -1,5 +1,5 @@
 -- Worked guides of parts.
-use Rattle.std.specs.Prelude.{◌≡◌, false, [], ◌∷◌, Some, None, codes, refl}
+use Rattle.std.specs.Prelude.{◌≡◌, [], ◌∷◌, Some, None, codes, refl}
 use Rattle.std.specs.Fmt.{digits}
 use Rattle.guide_model.specs.declared.shown.Shown.TheVariants.{Text}
 use Rattle.guide_screen.specs.declared.need.Need.TheVariants.{Pat, Nit, Sdt, Clock, Pmt}
@@ -40,7 +40,6 @@ row_pat : part_text (record {
       kind = None;
       provider = Text [];
       name = Text [];
-      scrambled = false;
       descriptors = [];
       pmt_pid = Some 256;
       pcr_pid = None;

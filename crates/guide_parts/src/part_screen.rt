@@ -24,8 +24,8 @@ pub struct PartNetwork {
 }
 
 /// What is held of a service: its service_id; its service_type (`kind`), the names of its provider and
-/// its own, whether it is scrambled and its further descriptors, where the SDT has an entry, and else
-/// none and empty names; the PIDs of its PMT and its PCR, the further descriptors of its program, its components, its present and
+/// its own and its further descriptors, where the SDT has an entry, and else none and empty names; the
+/// PIDs of its PMT and its PCR, the further descriptors of its program, its components, its present and
 /// following event, and the events of its schedule, as far as they were heard (ISO/IEC 13818-1, 2.4.4.3 and 2.4.4.8; EN 300 468, 5.2.3, 5.2.4 and 6.2.33).
 #[derive(Drop)]
 pub struct PartService {
@@ -33,7 +33,6 @@ pub struct PartService {
     pub kind: Option<u8>,
     pub provider: Shown,
     pub name: Shown,
-    pub scrambled: bool,
     pub descriptors: RawDescs,
     pub pmt_pid: Option<u16>,
     pub pcr_pid: Option<u16>,

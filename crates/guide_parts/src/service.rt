@@ -69,7 +69,6 @@ fn put_part_service(
         alloc,
         out,
         details,
-        service.scrambled,
         further,
         service.program_descriptors.as_slice(),
     )?;

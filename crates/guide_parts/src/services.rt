@@ -4,7 +4,7 @@ ghost use Rattle.guide_model.specs.declared.shown.Shown.TheVariants.{Text};
 ghost use Rattle.section_codec.specs.declared.table.Key.{Key};
 ghost use Rattle.section_codec.specs.Contents.{Content};
 ghost use Rattle.guide_parts.specs.Holding.{KeepsParts};
-ghost use Rattle.guide_parts.specs.PartScreen.{descriptors_by, name_by, provider_by, scrambled_by, service_on, part_service};
+ghost use Rattle.guide_parts.specs.PartScreen.{descriptors_by, name_by, provider_by, service_on, part_service};
 
 use crate::part_screen::{Listed, PartService, PartServices};
 use crate::tables::{pmt_held, schedule_held, table_held};
@@ -22,17 +22,15 @@ struct Described {
     kind: Option<u8>,
     provider: Shown,
     name: Shown,
-    scrambled: bool,
     descriptors: RawDescs,
 }
 
-// What an entry of the SDT says; without an entry there are empty names, and it is not scrambled.
+// What an entry of the SDT says; without an entry there are empty names.
 fn described_by(alloc: Global, entry: Option<SdtService>) -> Result<Described, AllocError>
     ensures { IfOk result (λ said. said ≡ record {
       kind = option_map (λ s. s.kind) entry;
       provider = provider_by entry;
       name = name_by entry;
-      scrambled = scrambled_by entry;
       descriptors = descriptors_by entry;
     }) }
 {
@@ -41,14 +39,12 @@ fn described_by(alloc: Global, entry: Option<SdtService>) -> Result<Described, A
             kind: Some(entry.kind),
             provider: entry.provider,
             name: entry.name,
-            scrambled: entry.scrambled,
             descriptors: entry.descriptors,
         }),
         None => Ok(Described {
             kind: None,
             provider: empty_name(alloc)?,
             name: empty_name(alloc)?,
-            scrambled: false,
             descriptors: Items::new(alloc),
         }),
     }
@@ -84,7 +80,6 @@ fn service_on(
         kind: said.kind,
         provider: said.provider,
         name: said.name,
-        scrambled: said.scrambled,
         descriptors: said.descriptors,
         pmt_pid: pid,
         pcr_pid: program.pcr_pid,

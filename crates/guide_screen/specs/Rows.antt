@@ -1,5 +1,5 @@
 -- Worked screens and needs.
-use Rattle.std.specs.Prelude.{◌≡◌, ℕ, Bool, true, false, List, [], ◌∷◌, if◌then◌else◌, Option, Some, None, refl, codes}
+use Rattle.std.specs.Prelude.{◌≡◌, ℕ, true, List, [], ◌∷◌, if◌then◌else◌, Option, Some, None, refl, codes}
 use Rattle.std.specs.Str.{chars}
 use Rattle.guide_model.specs.declared.shown.Shown.TheVariants.{Text}
 use Rattle.si_time.specs.Readings.{moment_from_bcd, duration_from_bcd}
@@ -102,18 +102,14 @@ nit = (
       ∷ 0xF0 ∷ 0x0B ∷ 0x00 ∷ 0x01 ∷ 0x00 ∷ 0x01 ∷ 0xF0 ∷ 0x05 ∷ 0x41 ∷ 0x03 ∷ 0x00 ∷ 0x65 ∷ 0x01 ∷ []),
 )
 
--- News of Acme, with these flags, and these bits before the length of its descriptors
-abbrev sdt_as : ℕ → ℕ → Key × Content
-sdt_as flags bits = (
+-- News of Acme, with these flags
+abbrev sdt_with : ℕ → Key × Content
+sdt_with flags = (
   sdt_key,
   one_body
-      (0x00 ∷ 0x01 ∷ 0xFF ∷ 0x00 ∷ 0x65 ∷ flags ∷ bits ∷ 0x0D
+      (0x00 ∷ 0x01 ∷ 0xFF ∷ 0x00 ∷ 0x65 ∷ flags ∷ 0x80 ∷ 0x0D
       ∷ 0x48 ∷ 0x0B ∷ 0x01 ∷ 0x04 ∷ 0x41 ∷ 0x63 ∷ 0x6D ∷ 0x65 ∷ 0x04 ∷ 0x4E ∷ 0x65 ∷ 0x77 ∷ 0x73 ∷ []),
 )
-
--- it is running, and not scrambled
-abbrev sdt_with : ℕ → Key × Content
-sdt_with flags = sdt_as flags 0x80
 
 abbrev eit_body : ℕ → ℕ → List ℕ
 eit_body segment_last last_table = 0x00 ∷ 0x01 ∷ 0x00 ∷ 0x01 ∷ segment_last ∷ last_table ∷ []
@@ -143,9 +139,9 @@ having cs = record {
 
 -- ---- screens
 
--- what is shown of it, scrambled or not, with these events of its schedule, and with these other streams
-abbrev shown_as : Bool → List ScreenOther → List ScreenEvent → Screen
-shown_as scrambled others events = record {
+-- what is shown of it, with these events of its schedule, and with these other streams
+abbrev shown_beside : List ScreenOther → List ScreenEvent → Screen
+shown_beside others events = record {
   clock = record { 0 = 4257234000 };
   offsets = [];
   network = 40;
@@ -160,7 +156,6 @@ shown_as scrambled others events = record {
     kind = 1;
     provider = Text (codes "Acme");
     name = Text (codes "News");
-    scrambled = scrambled;
     descriptors = [];
     pmt_pid = Some 256;
     pcr_pid = Some 257;
@@ -174,20 +169,12 @@ shown_as scrambled others events = record {
   others = others;
 }
 
-abbrev shown_beside : List ScreenOther → List ScreenEvent → Screen
-shown_beside others events = shown_as false others events
-
 abbrev shown_with : List ScreenEvent → Screen
 shown_with events = shown_beside [] events
 
 whole : heard_of (having (pat ∷ pmt ∷ nit ∷ sdt_with 0xFF ∷ present ∷ schedule_to 0x50 ∷ [])) ≡ Whole (shown_with [])
 unfolding chars
 whole = refl
-
--- scrambled: free_CA_mode is the last of the four bits
-scrambled_shown : heard_of (having (pat ∷ pmt ∷ nit ∷ sdt_as 0xFC 0x90 ∷ [])) ≡ Whole (shown_as true [] [])
-unfolding chars
-scrambled_shown = refl
 
 -- event information is not needed where the flags do not tell it, and is shown all the same where it was heard
 not_told : heard_of (having (pat ∷ pmt ∷ nit ∷ sdt_with 0xFC ∷ [])) ≡ Whole (shown_with [])
@@ -210,17 +197,14 @@ shown_all_the_same = refl
 abbrev other_key : ℕ → ℕ → Key
 other_key stream network = record { pid = 0x11; table = 0x46; ext = stream; stream = 0; network = network }
 
--- an SDT of table 0x46 with service 201, Two of Acme, and these bits before the length of its descriptors
-abbrev other_as : ℕ → ℕ → ℕ → Key × Content
-other_as bits stream network = (
+-- an SDT of table 0x46 with service 201, Two of Acme
+abbrev other_sdt : ℕ → ℕ → Key × Content
+other_sdt stream network = (
   other_key stream network,
   one_body
-      (0x00 ∷ network ∷ 0xFF ∷ 0x00 ∷ 0xC9 ∷ 0xFF ∷ bits ∷ 0x0C
+      (0x00 ∷ network ∷ 0xFF ∷ 0x00 ∷ 0xC9 ∷ 0xFF ∷ 0x80 ∷ 0x0C
       ∷ 0x48 ∷ 0x0A ∷ 0x01 ∷ 0x04 ∷ 0x41 ∷ 0x63 ∷ 0x6D ∷ 0x65 ∷ 0x03 ∷ 0x54 ∷ 0x77 ∷ 0x6F ∷ []),
 )
-
-abbrev other_sdt : ℕ → ℕ → Key × Content
-other_sdt stream network = other_as 0x80 stream network
 
 -- a schedule of service 201 of stream 2 of network 1, with one event in the table after its first, which names that table as the last
 abbrev remote_first : ℕ → Key × Content
@@ -257,8 +241,8 @@ having_others others more = record {
   offsets = [];
 }
 
-abbrev stream_as : Bool → ℕ → ℕ → Option ScreenEvent → List ScreenEvent → ScreenOther
-stream_as scrambled stream network next events = record {
+abbrev stream_shown : ℕ → ℕ → Option ScreenEvent → List ScreenEvent → ScreenOther
+stream_shown stream network next events = record {
   stream = stream;
   original = network;
   cable = None;
@@ -268,7 +252,6 @@ stream_as scrambled stream network next events = record {
     kind = 1;
     provider = Text (codes "Acme");
     name = Text (codes "Two");
-    scrambled = scrambled;
     descriptors = [];
     now = None;
     next = next;
@@ -277,20 +260,11 @@ stream_as scrambled stream network next events = record {
       ∷ [];
 }
 
-abbrev stream_shown : ℕ → ℕ → Option ScreenEvent → List ScreenEvent → ScreenOther
-stream_shown stream network next events = stream_as false stream network next events
-
 -- the SDT of table 0x46 that describes the own stream, with the ids 1 and 1, is not shown; one that has one id in common with it is
 others_shown : heard_of (having_others (other_key 1 1 ∷ other_key 1 2 ∷ other_key 2 1 ∷ []) (other_sdt 1 1 ∷ other_sdt 1 2 ∷ other_sdt 2 1 ∷ []))
     ≡ Whole (shown_beside (stream_shown 1 2 None [] ∷ stream_shown 2 1 None [] ∷ []) [])
 unfolding chars
 others_shown = refl
-
--- a service of another stream that is scrambled
-remote_scrambled : heard_of (having_others (other_key 2 1 ∷ []) (other_as 0x90 2 1 ∷ []))
-    ≡ Whole (shown_beside (stream_as true 2 1 None [] ∷ []) [])
-unfolding chars
-remote_scrambled = refl
 
 -- with its following event and the event of its schedule
 remote_shown : heard_of (having_others (other_key 2 1 ∷ []) (other_sdt 2 1 ∷ remote_present ∷ remote_first 0x61 ∷ remote_second ∷ []))
@@ -343,7 +317,7 @@ further = refl
 -- ---- services
 
 abbrev entry : ℕ → ℕ → SdtService
-entry id kind = record { service = id; schedule = true; present = true; scrambled = false; kind = kind; provider = Text []; name = Text []; descriptors = [] }
+entry id kind = record { service = id; schedule = true; present = true; kind = kind; provider = Text []; name = Text []; descriptors = [] }
 
 ascending : by_service (entry 5 1 ∷ entry 3 2 ∷ entry 5 3 ∷ entry 4 4 ∷ []) ≡ entry 3 2 ∷ entry 4 4 ∷ entry 5 1 ∷ []
 ascending = refl

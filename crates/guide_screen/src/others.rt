@@ -65,7 +65,6 @@ fn remote_service(
         kind: service.kind,
         provider: service.provider,
         name: service.name,
-        scrambled: service.scrambled,
         descriptors: service.descriptors,
         now,
         next,

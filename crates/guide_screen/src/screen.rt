@@ -88,7 +88,6 @@ fn service_on(
         kind: service.kind,
         provider: service.provider,
         name: service.name,
-        scrambled: service.scrambled,
         descriptors: service.descriptors,
         pmt_pid: pid,
         pcr_pid: program.pcr_pid,

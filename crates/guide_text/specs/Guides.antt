@@ -1,5 +1,5 @@
 -- The text of a guide: the table of its lines.
-use Rattle.std.specs.Prelude.{ℕ, ◌+◌, ◌-◌, ◌*◌, ◌++◌, List, [], ◌∷◌, take, Bool, false, ◌&&◌, if◌then◌else◌, nat_le, Option, Some, None, codes, decimal, flat_map}
+use Rattle.std.specs.Prelude.{ℕ, ◌+◌, ◌-◌, ◌*◌, ◌++◌, List, [], ◌∷◌, take, Bool, false, if◌then◌else◌, nat_le, Option, Some, None, codes, decimal, flat_map}
 use Rattle.std.specs.List.{join_with_byte}
 use Rattle.guide_model.specs.declared.event.Rating.{Rating}
 use Rattle.guide_model.specs.declared.offset.Offset.{Offset}
@@ -83,19 +83,14 @@ service_line s =
     line (codes "service" ∷ decimal s.service ∷ decimal s.kind ∷ shown_text s.provider ∷ shown_text s.name
     ∷ optional decimal s.pmt_pid ∷ optional decimal s.pcr_pid ∷ [])
 
--- with details a line of a service that is scrambled
-abbrev pub scrambled_text : Bool → Bool → List ℕ
-scrambled_text details scrambled = if details && scrambled then line (codes "scrambled" ∷ []) else []
-
--- with it the further descriptors of a service in the SDT, and those of its program in the PMT
-abbrev pub service_details : Bool → Bool → List RawDesc → List RawDesc → List ℕ
-service_details details scrambled ds program =
-    scrambled_text details scrambled ++ details_text details (codes "descriptor") ds ++ details_text details (codes "program") program
+-- the further descriptors of a service in the SDT, and those of its program in the PMT
+abbrev pub service_details : Bool → List RawDesc → List RawDesc → List ℕ
+service_details details ds program = details_text details (codes "descriptor") ds ++ details_text details (codes "program") program
 
 -- a service, its components, and its events
 abbrev pub service_text : Bool → ScreenService → List ℕ
 service_text details s =
-    service_line s ++ service_details details s.scrambled s.descriptors s.program_descriptors ++ flat_map (component_text details) s.components
+    service_line s ++ service_details details s.descriptors s.program_descriptors ++ flat_map (component_text details) s.components
     ++ optional (event_text details (codes "now")) s.now ++ optional (event_text details (codes "next")) s.next
     ++ flat_map (event_text details (codes "event")) s.events
 
@@ -159,7 +154,7 @@ remote_line s = line (codes "remote" ∷ decimal s.service ∷ decimal s.kind �
 -- a service of another stream, and its events
 abbrev pub remote_text : Bool → ScreenRemote → List ℕ
 remote_text details s =
-    remote_line s ++ scrambled_text details s.scrambled ++ details_text details (codes "descriptor") s.descriptors
+    remote_line s ++ details_text details (codes "descriptor") s.descriptors
     ++ optional (event_text details (codes "now")) s.now ++ optional (event_text details (codes "next")) s.next
     ++ flat_map (event_text details (codes "event")) s.events
 

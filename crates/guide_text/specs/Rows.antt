@@ -29,7 +29,6 @@ row_service = record {
   kind = 1;
   provider = Text (codes "Acme");
   name = Text (codes "News");
-  scrambled = false;
   descriptors = [];
   pmt_pid = Some 256;
   pcr_pid = Some 257;
@@ -110,7 +109,6 @@ row_remote = record {
   kind = 1;
   provider = Text (codes "Acme");
   name = Text (codes "Two");
-  scrambled = false;
   descriptors = [];
   now = None;
   next = Some row_bare;
@@ -155,7 +153,6 @@ row_alone = record {
   kind = 0;
   provider = Text [];
   name = Hex (0x05 ∷ 0xA4 ∷ []);
-  scrambled = false;
   descriptors = [];
   pmt_pid = None;
   pcr_pid = None;
@@ -250,22 +247,3 @@ row_details = refl
 row_no_details : guide_text (Whole (record row_screen { network_descriptors = linkage ∷ []; stream_descriptors = specifier ∷ channels ∷ [] })) ≡ guide_text (Whole row_screen)
 unfolding digits moments_compute
 row_no_details = refl
-
--- ---- services that are scrambled, an own one with a further descriptor and one of another stream: the line stands behind that of the service
-
-abbrev row_scrambled : Screen
-row_scrambled = record row_screen {
-  services = record row_service { scrambled = true; descriptors = authority ∷ [] } ∷ [];
-  others = record { stream = 2; original = 1; cable = None; descriptors = []; services = record row_remote { scrambled = true; next = None } ∷ [] } ∷ [];
-}
-
-row_scrambled_lines : guide_text_with true (Whole row_scrambled)
-    ≡ codes "clock\t1970-01-01T00:00:00Z\nnetwork\t40\tDemo\nstream\t1\t1\nservice\t101\t1\tAcme\tNews\t256\t257\nscrambled\ndescriptor\t730b6578616d706c652e636f6d\nother\t2\t1\t\t\t\t\t\nremote\t201\t1\tAcme\tTwo\nscrambled\nend\n"
-unfolding digits moments_compute encode_with
-row_scrambled_lines = refl
-
--- without details the line is not printed
-row_no_scrambled : guide_text (Whole row_scrambled)
-    ≡ codes "clock\t1970-01-01T00:00:00Z\nnetwork\t40\tDemo\nstream\t1\t1\nservice\t101\t1\tAcme\tNews\t256\t257\nother\t2\t1\t\t\t\t\t\nremote\t201\t1\tAcme\tTwo\nend\n"
-unfolding digits moments_compute
-row_no_scrambled = refl

@@ -1,6 +1,6 @@
 // The lines of further descriptors.
 ghost use Rattle.std.specs.Prelude.{◌≡◌, ◌++◌, OnOk, flat_map};
-ghost use Rattle.guide_text.specs.Guides.{descriptor_line, details_text, scrambled_text};
+ghost use Rattle.guide_text.specs.Guides.{descriptor_line, details_text};
 
 use guide_model::RawDesc;
 use std::alloc::{AllocError, Global};
@@ -47,21 +47,6 @@ pub fn put_details(
 {
     if details {
         put_descriptors(alloc, out, word, descs)
-    } else {
-        Ok(())
-    }
-}
-
-/// Appends with details the line of a service that is scrambled; without details, and of one that is not, nothing.
-pub(crate) fn put_scrambled(
-    out: &mut Vec<u8>,
-    details: bool,
-    scrambled: bool,
-) -> Result<(), AllocError>
-    ensures { OnOk result (out.new.items ≡ out.old.items ++ scrambled_text details scrambled) }
-{
-    if details && scrambled {
-        out.extend_from_slice(b"scrambled\n")
     } else {
         Ok(())
     }

@@ -1,9 +1,8 @@
 //! The text of a guide that was heard, as `listen` and `live` print it.
 //!
 //! [`print_heard`] appends exactly the text that the definitions say (`guide_text`), or nothing
-//! where memory runs out; [`print_heard_with`] also with details, which are the lines of services
-//! that are scrambled and of the descriptors that no other line shows whole, in digits that read
-//! back (`details_read_back`). A line is a word and fields with tabs between. `specs/Fields.antt` says
+//! where memory runs out; [`print_heard_with`] also with details, which are the lines of the
+//! descriptors that no other line shows whole, in digits that read back (`details_read_back`). A line is a word and fields with tabs between. `specs/Fields.antt` says
 //! how each kind of field is written, and `specs/Guides.antt` has the table of the lines. A moment
 //! that 16 bits of days cannot hold, or a duration of 100 hours or more, is written as an empty
 //! field. Not promised: that no heard guide has one.

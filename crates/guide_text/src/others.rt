@@ -3,7 +3,7 @@ ghost use Rattle.std.specs.Prelude.{◌≡◌, ◌++◌, OnOk, flat_map};
 ghost use Rattle.guide_text.specs.Guides.{other_line, remote_line, remote_text, other_text};
 
 use crate::cable::put_optional_cable;
-use crate::details::{put_details, put_scrambled};
+use crate::details::put_details;
 use crate::event::{put_events, put_some_event};
 use crate::field::{put_decimal, put_shown};
 use guide_model::{ScreenOther, ScreenRemote};
@@ -47,7 +47,6 @@ fn put_remote(
 {
     let further = service.descriptors.as_slice();
     put_remote_line(alloc, out, service)?;
-    put_scrambled(out, details, service.scrambled)?;
     put_details(alloc, out, details, b"descriptor", further)?;
     put_some_event(alloc, out, details, b"now", &service.now)?;
     put_some_event(alloc, out, details, b"next", &service.next)?;

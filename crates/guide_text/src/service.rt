@@ -3,7 +3,7 @@ ghost use Rattle.std.specs.Prelude.{◌≡◌, ◌++◌, ◌∷◌, OnOk, decima
 ghost use Rattle.guide_text.specs.Fields.{shown_text, optional};
 ghost use Rattle.guide_text.specs.Guides.{component_line, component_text, service_details, service_line, service_text};
 
-use crate::details::{put_details, put_scrambled};
+use crate::details::put_details;
 use crate::event::{put_events, put_some_event};
 use crate::field::{put_decimal, put_optional, put_optional_code, put_shown};
 use guide_model::{RawDesc, ScreenComponent, ScreenService};
@@ -58,19 +58,17 @@ pub fn put_components(
     Ok(())
 }
 
-/// Appends with details the line of a service that is scrambled, the lines of its further descriptors in the SDT, and of those of its
-/// program, whose lines begin with `program`.
+/// Appends with details the lines of the further descriptors of a service in the SDT, and of those of its program, whose lines begin
+/// with `program`.
 pub fn put_service_details(
     alloc: Global,
     out: &mut Vec<u8>,
     details: bool,
-    scrambled: bool,
     descs: &[RawDesc],
     program: &[RawDesc],
 ) -> Result<(), AllocError>
-    ensures { OnOk result (out.new.items ≡ out.old.items ++ service_details details scrambled descs.now program.now) }
+    ensures { OnOk result (out.new.items ≡ out.old.items ++ service_details details descs.now program.now) }
 {
-    put_scrambled(out, details, scrambled)?;
     put_details(alloc, out, details, b"descriptor", descs)?;
     put_details(alloc, out, details, b"program", program)
 }
@@ -124,7 +122,6 @@ fn put_service(
         alloc,
         out,
         details,
-        service.scrambled,
         further,
         service.program_descriptors.as_slice(),
     )?;

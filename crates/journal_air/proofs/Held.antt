@@ -62,14 +62,14 @@ module _ (b : Bearer) (ids : HasIds b) (at : AreSentAt b) (moment : ℕ) (conten
   placed : CanBePlaced (map at_of g.events)
   placed = events_can_be_placed g.events has.can.within.events has.can.small
 
-  pub present_is : content (bearer_key b b.present service) ≡ Some (present_sections b (b.scrambled g.service) moment g.events)
+  pub present_is : content (bearer_key b b.present service) ≡ Some (present_sections b moment g.events)
   present_is = ap (λ (n : ℕ). content (bearer_key b b.present n)) (sym same) ∙ has.present
 
   pub now_is : event_at 0 (table_at content (stream_key b) service b.present) ≡ now_shown moment g
-  now_is = ap (λ (o : Option Content). event_at 0 (sections o)) present_is ∙ now_said b ids (b.scrambled g.service) g.events codable types moment
+  now_is = ap (λ (o : Option Content). event_at 0 (sections o)) present_is ∙ now_said b ids g.events codable types moment
 
   pub next_is : event_at 1 (table_at content (stream_key b) service b.present) ≡ next_shown moment g
-  next_is = ap (λ (o : Option Content). event_at 1 (sections o)) present_is ∙ next_said b ids (b.scrambled g.service) g.events codable types moment
+  next_is = ap (λ (o : Option Content). event_at 1 (sections o)) present_is ∙ next_said b ids g.events codable types moment
 
   abbrev pub last : ℕ
   last = last_table_of (midnight moment) g.events

@@ -81,7 +81,6 @@ module _ (guide : Guide) (content : Key → Option Content) (o : Other) (ids : H
       kind = s.kind;
       provider = Text g.provider;
       name = Text g.name;
-      scrambled = s.scrambled;
       descriptors = s.descriptors;
       now = now;
       next = next;

@@ -18,7 +18,6 @@ use Rattle.section_codec.specs.declared.table.SubTable.{SubTable}
 use Rattle.section_codec.specs.Contents.{Content, numbers_from}
 use Rattle.section_codec.specs.Keys.{eit_numbers_in}
 use Rattle.table_bodies.specs.declared.eit.EitHead.{EitHead}
-use Rattle.table_bodies.specs.Entries.{flags_of}
 use Rattle.table_bodies.specs.Eit.{IsCodable, IsTyped, head_bytes, written_bytes, shown_event}
 use Rattle.eit_segments.specs.declared.event.EventAt.{EventAt}
 use Rattle.eit_segments.specs.declared.piece.Piece.{Piece}
@@ -96,9 +95,6 @@ module _ (b : Bearer) (ids : HasIds b) (at : AreSentAt b) (day : ℕ) (g : Servi
   abbrev end : ℕ
   end = last_table_of day g.events
 
-  abbrev scrambled : Bool
-  scrambled = b.scrambled g.service
-
   last_low : 0x50 ≤ end
   last_low = omega arith
 
@@ -108,14 +104,14 @@ module _ (b : Bearer) (ids : HasIds b) (at : AreSentAt b) (day : ℕ) (g : Servi
   pub last_said : FitSegments ats → last_table (b.sent 0x5F) (table_sent b day g 0x50).sections ≡ b.sent end
   last_said fit =
       let first = begins 0x50 (block_of day + 32 * (0x50 - 0x50)) ats fit in
-      ap (λ (ps : List Piece). last_table (b.sent 0x5F) (map (schedule_section b scrambled g.events (b.sent end)) ps)) first.are ∙ go first.piece first.rest first.zeroth
+      ap (λ (ps : List Piece). last_table (b.sent 0x5F) (map (schedule_section b g.events (b.sent end)) ps)) first.are ∙ go first.piece first.rest first.zeroth
     where
-      go : (p : Piece) (rest : List Piece) → p.number ≡ 0 → last_table (b.sent 0x5F) (map (schedule_section b scrambled g.events (b.sent end)) (p ∷ rest)) ≡ b.sent end
+      go : (p : Piece) (rest : List Piece) → p.number ≡ 0 → last_table (b.sent 0x5F) (map (schedule_section b g.events (b.sent end)) (p ∷ rest)) ≡ b.sent end
       go p rest e =
-          let body : List ℕ = (schedule_section b scrambled g.events (b.sent end) p).body in
-          let others : List NumberedBody = map (schedule_section b scrambled g.events (b.sent end)) rest in
+          let body : List ℕ = (schedule_section b g.events (b.sent end) p).body in
+          let others : List NumberedBody = map (schedule_section b g.events (b.sent end)) rest in
           ap (λ (n : ℕ). let s : NumberedBody = record { number = n; body = body } in last_table (b.sent 0x5F) (s ∷ others)) e
-          ∙ ap (last_beside (b.sent 0x5F)) (numbers_told (eit_head b p.segment_last (b.sent end)) (flat_map (written_bytes (flags_of 0 scrambled)) (section_events p g.events)))
+          ∙ ap (last_beside (b.sent 0x5F)) (numbers_told (eit_head b p.segment_last (b.sent end)) (flat_map (written_bytes 0) (section_events p g.events)))
           ∙ smaller (b.sent end) (b.sent 0x5F) (omega (arith, last_high, at.sent end, at.sent 0x5F))
         where
           smaller : (n most : ℕ) → n ≤ most → min most n ≡ n
@@ -137,7 +133,7 @@ module _ (b : Bearer) (ids : HasIds b) (at : AreSentAt b) (day : ℕ) (g : Servi
         let here : List Piece = sections_in_table day table ats in
         let events : List Piece → List Event = λ ps. flat_map (λ (p : Piece). section_events p g.events) ps in
         ap₂ (λ (o : Option Content) (l : List ScreenEvent). events_in (sections o) ++ l) all.0 (tables_said codable typed tables all.1)
-        ∙ ap (λ (l : List ScreenEvent). l ++ map shown_event (events (joined tables))) (pieces_said b ids scrambled g.events codable typed (b.sent end) here)
+        ∙ ap (λ (l : List ScreenEvent). l ++ map shown_event (events (joined tables))) (pieces_said b ids g.events codable typed (b.sent end) here)
         ∙ sym (map-append shown_event (events here) (events (joined tables)))
         ∙ ap (map shown_event) (sym (flat_map-append (λ (p : Piece). section_events p g.events) here (joined tables)))
 

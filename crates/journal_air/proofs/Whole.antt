@@ -118,7 +118,6 @@ module _ (mux : Mux) (ids : HasIds (own mux)) (guide : Guide) (moment : ℕ) (co
       kind = s.kind;
       provider = Text g.provider;
       name = Text g.name;
-      scrambled = s.scrambled;
       descriptors = s.descriptors;
       pmt_pid = pid;
       pcr_pid = option_map (λ p. p.pcr_pid) pmt;

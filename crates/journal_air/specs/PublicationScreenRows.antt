@@ -1,10 +1,9 @@
 -- Worked screens.
-use Rattle.std.specs.Prelude.{◌≡◌, ℕ, true, false, [], ◌∷◌, codes, map, Some, None, refl}
+use Rattle.std.specs.Prelude.{◌≡◌, ℕ, [], ◌∷◌, codes, Some, None, refl}
 use Rattle.guide_model.specs.declared.shown.Shown.TheVariants.{Text}
 use Rattle.guide_model.specs.declared.event.Event.{Event}
 use Rattle.guide_model.specs.declared.guide.Guide.{Guide}
 use Rattle.guide_model.specs.declared.screen.ScreenEvent.{ScreenEvent}
-use Rattle.guide_model.specs.declared.screen.ScreenService.{ScreenService}
 use Rattle.guide_model.specs.declared.guide.ServiceGuide.{ServiceGuide}
 use Rattle.mux_model.specs.declared.mux.MuxService.{MuxService}
 use Rattle.mux_model.specs.declared.mux.RemoteService.{RemoteService}
@@ -14,7 +13,7 @@ use Rattle.mux_model.specs.Muxes.{mux_of}
 use Rattle.journal_air.specs.Screen.{screen_of}
 
 abbrev news : MuxService
-news = record { service = 101; feed = 1; kind = 1; pmt_pid = 256; pcr_pid = 257; provider = codes "First"; name = codes "First"; scrambled = false; components = []; descriptors = []; program_descriptors = [] }
+news = record { service = 101; feed = 1; kind = 1; pmt_pid = 256; pcr_pid = 257; provider = codes "First"; name = codes "First"; components = []; descriptors = []; program_descriptors = [] }
 
 abbrev mux : Mux
 mux = mux_of 40 (codes "Demo") 2 1 (record { 0 = 0 }) 200 (news ∷ [])
@@ -44,7 +43,6 @@ screen_services : (screen_of mux guide 129605).services ≡ record {
   kind = 1;
   provider = Text (codes "Acme");
   name = Text (codes "Acme News");
-  scrambled = false;
   descriptors = [];
   pmt_pid = Some 256;
   pcr_pid = Some 257;
@@ -61,8 +59,7 @@ no_others = refl
 
 -- ---- another stream
 
--- stream 3 of network 4 has a service that is scrambled, stream 5 of network 4 has none; the first has a further descriptor, and so has its
--- service
+-- stream 3 of network 4 has a service, stream 5 of network 4 has none; the first has a further descriptor, and so has its service
 abbrev film : RemoteService
 film = record {
   service = 90;
@@ -70,7 +67,6 @@ film = record {
   kind = 25;
   provider = codes "Second";
   name = codes "Second";
-  scrambled = true;
   descriptors = record { tag = 0x73; body = [] } ∷ [];
 }
 
@@ -119,7 +115,6 @@ others_are : (screen_of wide both 129605).others ≡ record {
     kind = 25;
     provider = Text (codes "Far");
     name = Text (codes "Far Films");
-    scrambled = true;
     descriptors = record { tag = 0x73; body = [] } ∷ [];
     now = None;
     next = Some (shown 8 133200);
@@ -130,7 +125,3 @@ others_are = refl
 
 own_is : (screen_of wide both 129605).services ≡ (screen_of mux guide 129605).services
 own_is = refl
-
--- an own service that is scrambled is shown so
-scrambled_is : map (λ (s : ScreenService). s.scrambled) (screen_of (record mux { services = record news { scrambled = true } ∷ [] }) guide 129605).services ≡ true ∷ []
-scrambled_is = refl

@@ -1,5 +1,5 @@
 -- The airing list of a worked journal.
-use Rattle.std.specs.Prelude.{◌≡◌, ℕ, false, List, [], ◌∷◌, codes, map, refl}
+use Rattle.std.specs.Prelude.{◌≡◌, ℕ, List, [], ◌∷◌, codes, map, refl}
 use Rattle.si_time.specs.declared.moment.Moment.{Moment}
 use Rattle.mux_model.specs.declared.mux.MuxService.{MuxService}
 use Rattle.mux_model.specs.declared.mux.Mux.{Mux}
@@ -12,7 +12,7 @@ use Rattle.desk_core.specs.Publications.{swaps}
 use Rattle.journal_air.specs.Air.{airings}
 
 abbrev news : MuxService
-news = record { service = 101; feed = 1; kind = 1; pmt_pid = 256; pcr_pid = 257; provider = codes "First"; name = codes "First"; scrambled = false; components = []; descriptors = []; program_descriptors = [] }
+news = record { service = 101; feed = 1; kind = 1; pmt_pid = 256; pcr_pid = 257; provider = codes "First"; name = codes "First"; components = []; descriptors = []; program_descriptors = [] }
 
 abbrev mux : Mux
 mux = mux_of 40 (codes "Demo") 2 1 (record { 0 = 0 }) 200 (news ∷ [])

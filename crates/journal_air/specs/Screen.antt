@@ -43,15 +43,14 @@ events_shown moment guide = map shown_event (filter (is_scheduled (midnight mome
 
 -- ---- own services
 
--- a service: its numbers, whether it is scrambled, its components and its further descriptors are the multiplex's, its names and events
--- the guide's, and what is present and following at a moment
+-- a service: its numbers, components and further descriptors are the multiplex's, its names and events the guide's, and what is present
+-- and following at a moment
 abbrev pub service_shown : ℕ → MuxService → ServiceGuide → ScreenService
 service_shown moment service guide = record {
   service = service.service;
   kind = service.kind;
   provider = Text guide.provider;
   name = Text guide.name;
-  scrambled = service.scrambled;
   descriptors = service.descriptors;
   pmt_pid = Some service.pmt_pid;
   pcr_pid = Some service.pcr_pid;
@@ -72,15 +71,13 @@ services_shown mux guide = map (own_shown guide) mux.services
 
 -- ---- other streams
 
--- a service of another stream: its numbers, whether it is scrambled and its further descriptors are the multiplex's, its names and events
--- the guide's
+-- a service of another stream: its numbers and further descriptors are the multiplex's, its names and events the guide's
 abbrev pub remote_shown : ℕ → RemoteService → ServiceGuide → ScreenRemote
 remote_shown moment service guide = record {
   service = service.service;
   kind = service.kind;
   provider = Text guide.provider;
   name = Text guide.name;
-  scrambled = service.scrambled;
   descriptors = service.descriptors;
   now = now_shown moment guide;
   next = next_shown moment guide;

@@ -1,5 +1,5 @@
 -- Worked descriptions.
-use Rattle.std.specs.Prelude.{◌≡◌, ℕ, true, false, List, [], ◌∷◌, Option, Some, None, Ok, Err, refl, codes}
+use Rattle.std.specs.Prelude.{◌≡◌, ℕ, List, [], ◌∷◌, Option, Some, None, Ok, Err, refl, codes}
 use Rattle.std.specs.Str.{chars, is_utf8}
 use Rattle.input_lines.specs.Fields.{fields_compute, next_record, strip_bom}
 use Rattle.guide_model.specs.declared.descriptor.RawDesc.{RawDesc}
@@ -45,7 +45,6 @@ service id pmt pcr components = record {
   pcr_pid = pcr;
   provider = codes "Acme";
   name = codes "One";
-  scrambled = false;
   components = components;
   descriptors = [];
   program_descriptors = [];
@@ -56,7 +55,7 @@ stream kind pid language = record { stream_type = kind; pid = pid; language = la
 
 -- a service of another stream
 abbrev remote : ℕ → RemoteService
-remote id = record { service = id; feed = 1; kind = 1; provider = codes "Acme"; name = codes "Two"; scrambled = false; descriptors = [] }
+remote id = record { service = id; feed = 1; kind = 1; provider = codes "Acme"; name = codes "Two"; descriptors = [] }
 
 abbrev mux_with : List MuxService → Mux
 mux_with = mux_of 40 (codes "Demo") 1 1 (record { 0 = 3506716800 }) 200
@@ -278,35 +277,3 @@ of_no_other = refl
 of_no_program : fault_of_text (other_line ∷ remote_line ∷ codes "descriptor,program,201,0900" ∷ []) ≡ Some (Range 3)
 unfolding fields_compute groups_compute
 of_no_program = refl
-
--- ---- scrambled services
-
--- an own one, and one of another stream; the others are not
-scrambled_ones : described (network_line ∷ stream_line ∷ service_line ∷ codes "service,102,1,1,258,259,Acme,One" ∷ other_line ∷ remote_line ∷ codes "scrambled,201" ∷ codes "scrambled,102" ∷ end_line ∷ [])
-    ≡ whole_with (service 101 256 257 [] ∷ record (service 102 258 259 []) { scrambled = true } ∷ [])
-    (record { stream = 2; original = 1; cable = None; services = record (remote 201) { scrambled = true } ∷ []; descriptors = [] } ∷ [])
-    10
-unfolding fields_compute
-scrambled_ones = refl
-
--- no number; of no service, and of one that comes later; a second time
-scrambled_form : fault_of_text (service_line ∷ codes "scrambled,One" ∷ []) ≡ Some (Line 2)
-unfolding fields_compute
-scrambled_form = refl
-
-scrambled_none : fault_of_text (service_line ∷ codes "scrambled,102" ∷ []) ≡ Some (Range 2)
-unfolding fields_compute
-scrambled_none = refl
-
-scrambled_later : fault_of_text (network_line ∷ codes "scrambled,101" ∷ service_line ∷ []) ≡ Some (Range 2)
-unfolding fields_compute
-scrambled_later = refl
-
-scrambled_twice : fault_of_text (service_line ∷ codes "scrambled,101" ∷ network_line ∷ codes "scrambled,101" ∷ []) ≡ Some (Twice 4 2)
-unfolding fields_compute
-scrambled_twice = refl
-
--- that of another stream likewise
-scrambled_remote_twice : fault_of_text (other_line ∷ remote_line ∷ codes "scrambled,201" ∷ codes "scrambled,201" ∷ []) ≡ Some (Twice 4 3)
-unfolding fields_compute
-scrambled_remote_twice = refl

@@ -20,7 +20,7 @@ use Rattle.mux_model.specs.Sound.{comes_before, has_lower_id, is_region}
 use Rattle.mux_lines.specs.declared.record.Place.{Place}
 use Rattle.mux_lines.specs.declared.record.Place.TheVariants.{InNetwork, InStream, InOther, InService, InProgram, InComponent}
 use Rattle.mux_lines.specs.declared.record.Record.{Record}
-use Rattle.mux_lines.specs.declared.record.Record.TheVariants.{Network, Stream, Delivery, Service, Part, Start, Quota, Rate, Local, Elsewhere, Remote, Further, Scrambled, End}
+use Rattle.mux_lines.specs.declared.record.Record.TheVariants.{Network, Stream, Delivery, Service, Part, Start, Quota, Rate, Local, Elsewhere, Remote, Further, End}
 use Rattle.mux_lines.specs.declared.record.Numbered.{Numbered}
 use Rattle.mux_lines.specs.declared.record.RecordFound.{RecordFound}
 use Rattle.mux_lines.specs.declared.record.RecordFound.TheVariants.{NoRecord, OutOfRange, Is}
@@ -179,11 +179,6 @@ is_spoken id pid r = false
 abbrev pub is_language_descriptor : RawDesc → Bool
 is_language_descriptor d = d.tag == 0x0A
 
--- it says that the service with this id is scrambled
-abbrev pub is_scrambled : ℕ → Record → Bool
-is_scrambled id (Scrambled service) = service == id
-is_scrambled id r = false
-
 -- an offset of the region of this one
 abbrev pub has_region : Offset → Record → Bool
 has_region offset (Local o) = is_region o offset
@@ -208,8 +203,7 @@ spoken_at before place descs = None
 
 -- Whether the record has no place after these: it is a 65th service, or a component of no earlier service, or the
 -- 17th of its service, or a 17th offset, or a 16th other stream, or a service of no earlier other stream, or the 65th
--- service of other streams, or further descriptors of no earlier other stream, service or component, or it says of no
--- earlier service that it is scrambled.
+-- service of other streams, or further descriptors of no earlier other stream, service or component.
 abbrev pub has_no_place : List Numbered → Record → Bool
 has_no_place before (Service s) = nat_le 64 (length (all_of service_in before))
 has_no_place before (Part id c) = not (list_any (λ (r : Numbered). has_id id r.says) before) || nat_le 16 (length (all_of (part_in id) before))
@@ -217,7 +211,6 @@ has_no_place before (Local o) = nat_le 16 (length (all_of local_in before))
 has_no_place before (Elsewhere s o cable) = nat_le 15 (length (all_of other_in before))
 has_no_place before (Remote s o service) = not (list_any (λ (r : Numbered). is_other s o r.says) before) || nat_le 64 (length (all_of remote_in before))
 has_no_place before (Further place descs) = lacks_place before place
-has_no_place before (Scrambled id) = not (list_any (λ (r : Numbered). has_any_id id r.says) before)
 has_no_place before r = false
 
 -- The first line that has what the record repeats. Of a service these are tried in turn: its id, its PMT PID as a PMT
@@ -235,7 +228,6 @@ repeated_at before (Local o) = first_line (has_region o) before
 repeated_at before (Elsewhere s o cable) = first_line (has_ids s o) before
 repeated_at before (Remote s o service) = first_line (has_any_id service.service) before
 repeated_at before (Further place descs) = spoken_at before place descs
-repeated_at before (Scrambled id) = first_line (is_scrambled id) before
 repeated_at before End = None
 
 -- the fault of line n behind these records
@@ -256,18 +248,13 @@ insert s (t ∷ ts) = if nat_lt s.service t.service then s ∷ t ∷ ts else t �
 abbrev pub sorted : List MuxService → List MuxService
 sorted services = fold (λ (done : List MuxService) (s : MuxService). insert s done) [] services
 
--- whether a record says that the service with this id is scrambled
-abbrev pub scrambled_in : ℕ → List Numbered → Bool
-scrambled_in id records = list_any (λ (r : Numbered). is_scrambled id r.says) records
-
 -- a component of a service with its further descriptors among the records
 abbrev pub with_descriptors : List Numbered → ℕ → Component → Component
 with_descriptors records service c = record c { descriptors = descriptors_at (InComponent service c.pid) records }
 
--- a service, scrambled or not, with its components and its further descriptors among the records
+-- a service with its components and its further descriptors among the records
 abbrev pub with_parts : List Numbered → MuxService → MuxService
 with_parts records s = record s {
-  scrambled = scrambled_in s.service records;
   components = map (with_descriptors records s.service) (all_of (part_in s.service) records);
   descriptors = descriptors_at (InService s.service) records;
   program_descriptors = descriptors_at (InProgram s.service) records;
@@ -276,12 +263,9 @@ with_parts records s = record s {
 abbrev pub services_of : List Numbered → List MuxService
 services_of records = map (with_parts records) (sorted (all_of service_in records))
 
--- a service of another stream, scrambled or not, with its further descriptors among the records
+-- a service of another stream with its further descriptors among the records
 abbrev pub with_own : List Numbered → RemoteService → RemoteService
-with_own records s = record s {
-  scrambled = scrambled_in s.service records;
-  descriptors = descriptors_at (InService s.service) records;
-}
+with_own records s = record s { descriptors = descriptors_at (InService s.service) records }
 
 -- another stream with its services among the records, by ascending id, and its further descriptors
 abbrev pub with_remotes : List Numbered → Other → Other

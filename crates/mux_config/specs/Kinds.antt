@@ -8,11 +8,11 @@ use Rattle.mux_model.specs.Order.{placed}
 use Rattle.mux_model.specs.Sound.{comes_before, has_lower_id}
 use Rattle.mux_lines.specs.declared.record.Numbered.{Numbered}
 use Rattle.mux_config.specs.declared.kinds.Kind.{Kind}
-use Rattle.mux_config.specs.declared.kinds.Kind.TheVariants.{Networks, Streams, Deliveries, Starts, Quotas, Rates, Regions, Ids, Pairs, Pmts, Pids, Holders, Spoken, Scrambled, Services, Parts, Offsets, Others, Remotes}
+use Rattle.mux_config.specs.declared.kinds.Kind.TheVariants.{Networks, Streams, Deliveries, Starts, Quotas, Rates, Regions, Ids, Pairs, Pmts, Pids, Holders, Spoken, Services, Parts, Offsets, Others, Remotes}
 use Rattle.mux_config.specs.declared.room.Room.{Room}
 use Rattle.mux_config.specs.declared.room.Room.TheVariants as room
 use Rattle.mux_lines.specs.declared.record.Record.{Record}
-use Rattle.mux_config.specs.Descriptions.{is_network, is_stream, is_delivery, is_start, is_quota, is_rate, has_any_id, has_ids, has_pmt, has_pid, has_region, holds, insert, is_scrambled, is_spoken, local_in, other_in, part_in, remote_in, service_in, with_own, with_parts, with_remotes}
+use Rattle.mux_config.specs.Descriptions.{is_network, is_stream, is_delivery, is_start, is_quota, is_rate, has_any_id, has_ids, has_pmt, has_pid, has_region, holds, insert, is_spoken, local_in, other_in, part_in, remote_in, service_in, with_own, with_parts, with_remotes}
 use Rattle.mux_config.specs.Taken.{other_bytes, own_bytes, program_bytes, service_bytes}
 
 abbrev pub is_of : Kind → Record → Bool
@@ -29,7 +29,6 @@ is_of (Pmts pid) = has_pmt pid
 is_of (Pids pid) = has_pid pid
 is_of (Holders id pid) = holds id pid
 is_of (Spoken id pid) = is_spoken id pid
-is_of (Scrambled id) = is_scrambled id
 is_of Services = λ (r : Record). is_some (service_in r)
 is_of (Parts id) = λ (r : Record). is_some (part_in id r)
 is_of Offsets = λ (r : Record). is_some (local_in r)

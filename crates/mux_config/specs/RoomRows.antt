@@ -13,7 +13,7 @@ abbrev long : ℕ → RawDesc
 long n = record { tag = 0x90; body = replicate n 0 }
 
 abbrev own : Record
-own = Service (record { service = 101; feed = 1; kind = 1; pmt_pid = 256; pcr_pid = 257; provider = codes "Acme"; name = codes "One"; scrambled = false; components = []; descriptors = []; program_descriptors = [] })
+own = Service (record { service = 101; feed = 1; kind = 1; pmt_pid = 256; pcr_pid = 257; provider = codes "Acme"; name = codes "One"; components = []; descriptors = []; program_descriptors = [] })
 
 abbrev demo : Record
 demo = Network 40 (codes "Demo")
@@ -95,7 +95,7 @@ row_other = refl
 -- ---- the NIT's section with another stream: 14 bytes, 4 of the name and 3 of the service
 
 abbrev two : Record
-two = Remote 2 1 (record { service = 201; feed = 1; kind = 1; provider = codes "Acme"; name = codes "Two"; scrambled = false; descriptors = [] })
+two = Remote 2 1 (record { service = 201; feed = 1; kind = 1; provider = codes "Acme"; name = codes "Two"; descriptors = [] })
 
 abbrev elsewhere : ℕ → Record
 elsewhere n = Further (InOther 2 1) (long 255 ∷ long 255 ∷ long 255 ∷ long n ∷ [])

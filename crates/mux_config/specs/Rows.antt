@@ -26,7 +26,6 @@ service id pmt pcr components = record {
   pcr_pid = pcr;
   provider = codes "Acme";
   name = codes "One";
-  scrambled = false;
   components = components;
   descriptors = [];
   program_descriptors = [];

@@ -1,11 +1,11 @@
-// Kinds of records, and what a record repeats of those before it. A description has at most 1,317
+// Kinds of records, and what a record repeats of those before it. A description has at most 1,189
 // records beside those of further descriptors, and of these no more than sections have room for: so
 // each is held against all before it.
 ghost use Rattle.std.specs.Prelude.{◌≡◌, ◌||◌, not, nat_le, length, option_copied};
 ghost use Rattle.std.specs.Option.{option_or, is_some};
 ghost use Rattle.std.specs.List.{count_by, find, list_any};
 ghost use Rattle.mux_lines.specs.declared.record.Numbered.{Numbered};
-ghost use Rattle.mux_config.specs.Descriptions.{all_of, has_no_place, repeated_at, first_line, has_any_id, has_id, has_ids, has_pmt, has_pid, has_part, has_region, is_language_descriptor, is_other, is_scrambled, is_spoken, is_stream, lacks_place, local_in, other_in, part_in, remote_in, service_in, spoken_at};
+ghost use Rattle.mux_config.specs.Descriptions.{all_of, has_no_place, repeated_at, first_line, has_any_id, has_id, has_ids, has_pmt, has_pid, has_part, has_region, is_language_descriptor, is_other, is_spoken, is_stream, lacks_place, local_in, other_in, part_in, remote_in, service_in, spoken_at};
 ghost use Rattle.mux_config.specs.Kinds.{is_of};
 
 use guide_model::{Offset, RawDesc};
@@ -26,8 +26,7 @@ const MOST_REMOTES: usize = 64;
 // A kind of records: those that come once; offsets of the region of one; services of whatever
 // stream with an id; streams, the own one and others, with these ids; services whose PMT has a PID,
 // and components that have it; those that hold a PID as a PMT or in a service; the component of a
-// service with a PID, where it has a language; those that say of a service that it is scrambled; and all services, the components of one, all
-// offsets, all other streams and all their services.
+// service with a PID, where it has a language; and all services, the components of one, all offsets, all other streams and all their services.
 #[derive(Clone, Copy)]
 pub(crate) enum Kind {
     Networks,
@@ -43,7 +42,6 @@ pub(crate) enum Kind {
     Pids(u16),
     Holders(u16, u16),
     Spoken(u16, u16),
-    Scrambled(u16),
     Services,
     Parts(u16),
     Offsets,
@@ -69,7 +67,6 @@ pub(crate) fn is_of_kind(kind: Kind, says: &Record) -> bool
         Kind::Pids(pid) => has_pid(pid, says),
         Kind::Holders(id, pid) => has_pmt(pid, says) || has_part(id, pid, says),
         Kind::Spoken(id, pid) => is_spoken(id, pid, says),
-        Kind::Scrambled(id) => is_scrambled(id, says),
         Kind::Services => matches!(says, Record::Service(_)),
         Kind::Parts(id) => is_part_of(id, says),
         Kind::Offsets => matches!(says, Record::Local(_)),
@@ -169,16 +166,6 @@ fn is_spoken(id: u16, pid: u16, says: &Record) -> bool
         Record::Part(service, component) => {
             *service == id && (component.pid == pid && component.language.is_some())
         }
-        _ => false,
-    }
-}
-
-/// Whether a record says that the service with this id is scrambled.
-pub(crate) fn is_scrambled(id: u16, says: &Record) -> bool
-    ensures { result ≡ is_scrambled id says.now }
-{
-    match says {
-        Record::Scrambled(service) => *service == id,
         _ => false,
     }
 }
@@ -290,7 +277,6 @@ pub(crate) fn has_no_place(records: &[Numbered], says: &Record) -> bool
         Record::Elsewhere(_, _, _) => MOST_OTHERS <= count_of(Kind::Others, records),
         Record::Remote(stream, original, _) => lacks_stream(*stream, *original, records),
         Record::Further(place, _) => lacks_place(*place, records),
-        Record::Scrambled(id) => !has_any_service(*id, records),
         _ => false,
     }
 }
@@ -361,7 +347,6 @@ pub(crate) fn repeated_at(records: &[Numbered], says: &Record) -> Option<u64>
         }
         Record::Remote(_, _, service) => first_line(Kind::Ids(service.service), records),
         Record::Further(place, more) => spoken_at(*place, more.as_slice(), records),
-        Record::Scrambled(id) => first_line(Kind::Scrambled(*id), records),
         Record::End => None,
     }
 }

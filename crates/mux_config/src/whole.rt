@@ -4,7 +4,7 @@ ghost use Rattle.std.specs.Option.{unwrap_or};
 ghost use Rattle.mux_model.specs.declared.mux.MuxService.{MuxService};
 ghost use Rattle.mux_model.specs.declared.mux.Other.{Other};
 ghost use Rattle.mux_model.specs.declared.mux.RemoteService.{RemoteService};
-ghost use Rattle.mux_config.specs.Descriptions.{all_of, cable_of as the_cable, descriptors_at, said_at, scrambled_in, is_same, with_descriptors as with_its_descriptors, ended, first, insert as inserted, is_network, is_stream, local_in, mux_with, network_in, part_in, quota_of as the_quota, rate_of as the_rate, said, service_in, services_of as the_services, start_of as the_start, stream_in, with_parts as with_its_parts, others_of as the_others, remote_of as the_remote, other_in, with_own as with_its_own, with_remotes as with_its_remotes};
+ghost use Rattle.mux_config.specs.Descriptions.{all_of, cable_of as the_cable, descriptors_at, said_at, is_same, with_descriptors as with_its_descriptors, ended, first, insert as inserted, is_network, is_stream, local_in, mux_with, network_in, part_in, quota_of as the_quota, rate_of as the_rate, said, service_in, services_of as the_services, start_of as the_start, stream_in, with_parts as with_its_parts, others_of as the_others, remote_of as the_remote, other_in, with_own as with_its_own, with_remotes as with_its_remotes};
 ghost use Rattle.mux_lines.specs.declared.record.Place.TheVariants.{InNetwork, InStream, InOther, InService, InProgram};
 ghost use Rattle.mux_model.specs.Order.{all_placed, placed};
 ghost use Rattle.mux_model.specs.Sound.{comes_before, has_lower_id};
@@ -13,7 +13,7 @@ ghost use Rattle.mux_config.specs.Reads.{Makes};
 ghost use Rattle.std.specs.List.{cons_option};
 
 use crate::fault::{MuxFault, Word};
-use crate::kinds::{Kind, first_of, is_scrambled};
+use crate::kinds::{Kind, first_of};
 use crate::stop::MuxStop;
 use guide_model::{Cable, Component, Components, Offset, Offsets, RawDesc, RawDescs, Txt};
 use mux_lines::{Numbered, Place, Record};
@@ -250,14 +250,7 @@ fn lists_of(
     Ok((descriptors, of_program, components))
 }
 
-// Whether a record says that the service with this id is scrambled.
-fn scrambled_in(records: &[Numbered], id: u16) -> bool
-    ensures { result ≡ scrambled_in id records.now }
-{
-    records.iter().any(|r| is_scrambled(id, &r.says))
-}
-
-// A service, scrambled or not, with its components and its further descriptors among the records.
+// A service with its components and its further descriptors among the records.
 fn with_parts(
     alloc: Global,
     records: &[Numbered],
@@ -276,7 +269,6 @@ fn with_parts(
         pcr_pid: service.pcr_pid,
         provider,
         name,
-        scrambled: scrambled_in(records, service.service),
         components,
         descriptors,
         program_descriptors: of_program,
@@ -379,7 +371,7 @@ fn first_remote_above(services: &[RemoteService], id: u16) -> Option<usize>
     )
 }
 
-// A service of another stream, scrambled or not, with its further descriptors among the records.
+// A service of another stream with its further descriptors among the records.
 fn with_own(
     alloc: Global,
     records: &[Numbered],
@@ -393,7 +385,6 @@ fn with_own(
         kind: service.kind,
         provider: service.provider.copy()?,
         name: service.name.copy()?,
-        scrambled: scrambled_in(records, service.service),
         descriptors: descriptors_at(alloc, records, Place::InService(service.service))?,
     })
 }

@@ -23,14 +23,14 @@ use Rattle.mux_lines.specs.declared.rows.RemoteNumbers.{RemoteNumbers}
 use Rattle.mux_lines.specs.declared.record.Place.{Place}
 use Rattle.mux_lines.specs.declared.record.Place.TheVariants.{InNetwork, InStream}
 use Rattle.mux_lines.specs.declared.record.Record.{Record}
-use Rattle.mux_lines.specs.declared.record.Record.TheVariants.{Network, Stream, Delivery, Service, Part, Quota, Rate, Local, Elsewhere, Remote, Further, End, Scrambled}
+use Rattle.mux_lines.specs.declared.record.Record.TheVariants.{Network, Stream, Delivery, Service, Part, Quota, Rate, Local, Elsewhere, Remote, Further, End}
 use Rattle.mux_lines.specs.declared.record.RecordFound.{RecordFound}
 use Rattle.mux_lines.specs.declared.record.RecordFound.TheVariants.{NoRecord, Is}
 use Rattle.mux_lines.specs.Found.{found_with, within}
 use Rattle.input_lines.specs.Groups.{descriptors_in}
 use Rattle.mux_lines.specs.Further.{are_free, component_place, further_of, in_loop, made_in, of_id, of_pair, other_place, program_place, service_place}
 use Rattle.input_lines.proofs.GroupFacts.{IsRead, each_read}
-use Rattle.mux_lines.specs.Fields.{are_ids, cabled_in, is_remote_in_range, other_by, other_in, remote_by, remote_in, remote_numbers_in, remote_of, cable_with, found_fields, found_in, found_line, is_language, is_letter, is_service_in_range, language_of, network_in, stream_in, scrambled_in, cable_in, numbers_in, service_of, service_in, bare_service, part_in, is_capital, country_of, side_of, offset_with, offset_in, start_with, start_in, quota_in, rate_in}
+use Rattle.mux_lines.specs.Fields.{are_ids, cabled_in, is_remote_in_range, other_by, other_in, remote_by, remote_in, remote_numbers_in, remote_of, cable_with, found_fields, found_in, found_line, is_language, is_letter, is_service_in_range, language_of, network_in, stream_in, cable_in, numbers_in, service_of, service_in, bare_service, part_in, is_capital, country_of, side_of, offset_with, offset_in, start_with, start_in, quota_in, rate_in}
 use Rattle.mux_lines.specs.Fine.{IsFine, IsFineFound}
 
 -- ---- numbers in their ranges
@@ -233,9 +233,6 @@ fine_rate rate =
     fine_with (numeral_of rate) _
     (λ n. fine_within (in_range 100000 100000000 n) (Rate n) (bounds 100000 100000000 n))
 
-fine_scrambled : (id : List ℕ) → IsFineFound (scrambled_in id)
-fine_scrambled id = fine_with (numeral_of id) _ (λ n. fine_within (in_range 0 65535 n) (Scrambled n) (λ e. tt))
-
 -- ---- further descriptors
 
 not_true : (b : Bool) → not b ≡ true → b ≡ false
@@ -284,8 +281,7 @@ fine_in (word ∷ []) kept = fine_if (is_word (codes "end") word) (Is End) NoRec
 fine_in (word ∷ a ∷ []) kept =
     fine_if (is_word (codes "start") word) (start_in a) _ (fine_start a)
     (fine_if (is_word (codes "quota") word) (quota_in a) _ (fine_quota a)
-    (fine_if (is_word (codes "rate") word) (rate_in a) _ (fine_rate a)
-    (fine_if (is_word (codes "scrambled") word) (scrambled_in a) NoRecord (fine_scrambled a) tt)))
+    (fine_if (is_word (codes "rate") word) (rate_in a) NoRecord (fine_rate a) tt))
 fine_in (word ∷ a ∷ b ∷ []) kept =
     fine_if (is_word (codes "network") word) (network_in a b) _ (fine_network a b kept.1.1.0)
     (fine_if (is_word (codes "stream") word) (stream_in a b) _ (fine_stream a b)

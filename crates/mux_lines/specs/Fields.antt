@@ -8,7 +8,7 @@ use Rattle.mux_model.specs.declared.mux.MuxService.{MuxService}
 use Rattle.mux_model.specs.declared.mux.RemoteService.{RemoteService}
 use Rattle.mux_lines.specs.declared.rows.Numbers.{Numbers}
 use Rattle.mux_lines.specs.declared.rows.RemoteNumbers.{RemoteNumbers}
-use Rattle.mux_lines.specs.declared.record.Record.TheVariants.{Network, Stream, Delivery, Service, Part, Start, Quota, Rate, Local, Elsewhere, Remote, Scrambled, End}
+use Rattle.mux_lines.specs.declared.record.Record.TheVariants.{Network, Stream, Delivery, Service, Part, Start, Quota, Rate, Local, Elsewhere, Remote, End}
 use Rattle.mux_lines.specs.declared.record.RecordFound.{RecordFound}
 use Rattle.mux_lines.specs.declared.record.RecordFound.TheVariants.{NoRecord, OutOfRange, Is}
 use Rattle.mux_lines.specs.Found.{spelled, within}
@@ -39,7 +39,7 @@ cable_in frequency modulation rate outer inner =
 
 -- a service without components
 abbrev pub bare_service : ℕ → ℕ → ℕ → ℕ → ℕ → List ℕ → List ℕ → MuxService
-bare_service id feed kind pmt pcr provider name = record { service = id; feed = feed; kind = kind; pmt_pid = pmt; pcr_pid = pcr; provider = provider; name = name; scrambled = false; components = []; descriptors = []; program_descriptors = [] }
+bare_service id feed kind pmt pcr provider name = record { service = id; feed = feed; kind = kind; pmt_pid = pmt; pcr_pid = pcr; provider = provider; name = name; components = []; descriptors = []; program_descriptors = [] }
 
 abbrev pub is_service_in_range : MuxService → Bool
 is_service_in_range s =
@@ -123,10 +123,6 @@ quota_in quota = spelled quota (λ n. within (in_range 1 10000 n) (Quota n))
 abbrev pub rate_in : List ℕ → RecordFound
 rate_in rate = spelled rate (λ n. within (in_range 100000 100000000 n) (Rate n))
 
--- `scrambled,ID`
-abbrev pub scrambled_in : List ℕ → RecordFound
-scrambled_in id = spelled id (λ n. within (in_range 0 65535 n) (Scrambled n))
-
 -- `other,STREAM,ORIGINAL`
 abbrev pub are_ids : ℕ → ℕ → Bool
 are_ids stream original = in_range 0 65535 stream && in_range 0 65535 original
@@ -153,7 +149,7 @@ abbrev pub remote_with : ℕ → ℕ → RemoteService → RecordFound
 remote_with stream original s = within (are_ids stream original && is_remote_in_range s) (Remote stream original s)
 
 abbrev pub remote_by : ℕ → ℕ → ℕ → List ℕ → List ℕ → RemoteService
-remote_by id feed kind provider name = record { service = id; feed = feed; kind = kind; provider = provider; name = name; scrambled = false; descriptors = [] }
+remote_by id feed kind provider name = record { service = id; feed = feed; kind = kind; provider = provider; name = name; descriptors = [] }
 
 -- the numbers of a service of another stream, where each is spelled as one
 abbrev pub remote_numbers_in : List ℕ → List ℕ → List ℕ → List ℕ → List ℕ → Option RemoteNumbers
@@ -202,7 +198,6 @@ found_in (word ∷ a ∷ []) =
     if is_word (codes "start") word then start_in a
     else if is_word (codes "quota") word then quota_in a
     else if is_word (codes "rate") word then rate_in a
-    else if is_word (codes "scrambled") word then scrambled_in a
     else NoRecord
 found_in (word ∷ a ∷ b ∷ []) = three_in word a b
 found_in (word ∷ a ∷ b ∷ c ∷ []) = if is_word (codes "descriptor") word then of_id a b c else NoRecord

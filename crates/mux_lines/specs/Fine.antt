@@ -6,7 +6,7 @@ use Rattle.si_time.specs.declared.moment.Moment.{Moment}
 use Rattle.mux_model.specs.declared.mux.MuxService.{MuxService}
 use Rattle.mux_model.specs.declared.mux.RemoteService.{RemoteService}
 use Rattle.mux_lines.specs.declared.record.Record.{Record}
-use Rattle.mux_lines.specs.declared.record.Record.TheVariants.{Network, Stream, Delivery, Service, Part, Start, Quota, Rate, Local, Elsewhere, Remote, Further, Scrambled, End}
+use Rattle.mux_lines.specs.declared.record.Record.TheVariants.{Network, Stream, Delivery, Service, Part, Start, Quota, Rate, Local, Elsewhere, Remote, Further, End}
 use Rattle.mux_lines.specs.declared.record.RecordFound.{RecordFound}
 use Rattle.mux_lines.specs.declared.record.RecordFound.TheVariants.{Is}
 use Rattle.guide_model.specs.Descriptors.{AreSoundDescriptors}
@@ -43,7 +43,6 @@ IsFine (Local offset) = IsSoundOffset offset
 IsFine (Elsewhere s o cable) = IsFineStream (s, o) × HasSoundCable cable
 IsFine (Remote s o service) = IsFineRemote service
 IsFine (Further place descs) = AreSoundDescriptors (made_in place) descs
-IsFine (Scrambled id) = Unit {0}
 IsFine End = Unit {0}
 
 abbrev pub IsFineFound : RecordFound → Type 0

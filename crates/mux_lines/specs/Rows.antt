@@ -1,9 +1,9 @@
--- Worked lines of further descriptors and of scrambled services.
+-- Worked lines of further descriptors.
 use Rattle.std.specs.Prelude.{◌≡◌, ℕ, List, [], ◌∷◌, Some, None, refl, codes}
 use Rattle.input_lines.specs.Fields.{fields_compute}
 use Rattle.guide_model.specs.declared.descriptor.RawDesc.{RawDesc}
 use Rattle.mux_lines.specs.declared.record.Place.TheVariants.{InNetwork, InOther, InService, InProgram, InComponent}
-use Rattle.mux_lines.specs.declared.record.Record.TheVariants.{Further, Scrambled}
+use Rattle.mux_lines.specs.declared.record.Record.TheVariants.{Further}
 use Rattle.mux_lines.specs.declared.record.RecordFound.TheVariants.{NoRecord, OutOfRange, Is}
 use Rattle.mux_lines.specs.Fields.{found_line}
 use Rattle.input_lines.specs.Groups.{descriptors_in, groups_compute}
@@ -128,26 +128,3 @@ original_past = refl
 pid_past : found_line (codes "descriptor,component,101,31,5200") ≡ OutOfRange
 unfolding fields_compute groups_compute
 pid_past = refl
-
--- ---- a scrambled service
-
-scrambled : found_line (codes "scrambled,101") ≡ Is (Scrambled 101)
-unfolding fields_compute
-scrambled = refl
-
--- without its id, with a field more, and with an id that is no number
-scrambled_alone : found_line (codes "scrambled") ≡ NoRecord
-unfolding fields_compute
-scrambled_alone = refl
-
-scrambled_more : found_line (codes "scrambled,101,1") ≡ NoRecord
-unfolding fields_compute
-scrambled_more = refl
-
-scrambled_word : found_line (codes "scrambled,x") ≡ NoRecord
-unfolding fields_compute
-scrambled_word = refl
-
-scrambled_past : found_line (codes "scrambled,65536") ≡ OutOfRange
-unfolding fields_compute
-scrambled_past = refl

@@ -19,8 +19,7 @@ pub enum Place {
 /// What a line of the description says: the network's id and name; the stream's id and its original network; the cable
 /// delivery; a service, still without components; a component of a service; the moment at which the desk starts; the
 /// quota; the bit rate of the air; how far the clocks of a region are from UTC; another stream's id, its original network and its cable
-/// delivery; a service of the other stream with this id and original network; further descriptors of a place; that the service with
-/// this id is scrambled; the end.
+/// delivery; a service of the other stream with this id and original network; further descriptors of a place; the end.
 #[derive(Drop)]
 pub enum Record {
     Network(u16, Txt),
@@ -35,7 +34,6 @@ pub enum Record {
     Elsewhere(u16, u16, Option<Cable>),
     Remote(u16, u16, RemoteService),
     Further(Place, RawDescs),
-    Scrambled(u16),
     End,
 }
 

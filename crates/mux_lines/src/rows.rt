@@ -3,7 +3,7 @@ ghost use Rattle.std.specs.Prelude.{◌≡◌, ◌<◌, ◌∷◌, [], true, fal
 ghost use Rattle.guide_model.specs.Coding.{coded_size};
 ghost use Rattle.input_lines.specs.Numbers.{in_range};
 ghost use Rattle.mux_model.specs.Sound.{farthest};
-ghost use Rattle.mux_lines.specs.Fields.{network_in, stream_in, cable_in, delivery_with, are_ids, other_in, other_by, cabled_in, remote_with, remote_by, remote_numbers_in, remote_of as numbers_remote, eight_in, five_in, three_in, numbers_in, service_with, service_of as numbers_service, bare_service, is_letter as is_small_letter, is_language as is_a_language, language_of, part_in, is_capital, country_of, side_of, offset_with, offset_in, start_in, quota_in, rate_in, scrambled_in, found_in, found_line};
+ghost use Rattle.mux_lines.specs.Fields.{network_in, stream_in, cable_in, delivery_with, are_ids, other_in, other_by, cabled_in, remote_with, remote_by, remote_numbers_in, remote_of as numbers_remote, eight_in, five_in, three_in, numbers_in, service_with, service_of as numbers_service, bare_service, is_letter as is_small_letter, is_language as is_a_language, language_of, part_in, is_capital, country_of, side_of, offset_with, offset_in, start_in, quota_in, rate_in, found_in, found_line};
 
 use crate::further::{in_loop, of_id, of_pair};
 use crate::numbers::{byte, is_in, short};
@@ -161,7 +161,6 @@ fn service_of(
         pcr_pid,
         provider: provider.copy()?,
         name: name.copy()?,
-        scrambled: false,
         components: Components::new(alloc),
         descriptors: RawDescs::new(alloc),
         program_descriptors: RawDescs::new(alloc),
@@ -415,19 +414,6 @@ fn rate(rate: &Txt) -> RecordFound
     }
 }
 
-// `scrambled,ID`
-fn scrambled(id: &Txt) -> RecordFound
-    ensures { result ≡ scrambled_in id.now }
-{
-    let Some(id) = numeral(id.as_str()) else {
-        return RecordFound::NoRecord;
-    };
-    match short(0, 65_535, id) {
-        Some(id) => RecordFound::Is(Record::Scrambled(id)),
-        None => RecordFound::OutOfRange,
-    }
-}
-
 // The ids of a stream, where both are in their range.
 fn ids(stream: u32, original: u32) -> Option<(u16, u16)>
     ensures some { IfSome result (λ both. (are_ids stream original ≡ true) × (both ≡ (stream, original))) }
@@ -537,7 +523,6 @@ fn remote_of(
         kind,
         provider: provider.copy()?,
         name: name.copy()?,
-        scrambled: false,
         descriptors: RawDescs::new(alloc),
     };
     Ok(RecordFound::Is(Record::Remote(stream, original, service)))
@@ -649,9 +634,6 @@ fn record_of_one(word: &Txt, a: &Txt) -> RecordFound
     }
     if is_word(word.as_str(), "rate") {
         return rate(a);
-    }
-    if is_word(word.as_str(), "scrambled") {
-        return scrambled(a);
     }
     RecordFound::NoRecord
 }

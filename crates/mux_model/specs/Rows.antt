@@ -1,5 +1,5 @@
 -- A worked multiplex: one service without components, which starts at 1970-01-01T00:00:00Z.
-use Rattle.std.specs.Prelude.{false, [], ◌∷◌, codes}
+use Rattle.std.specs.Prelude.{[], ◌∷◌, codes}
 use Rattle.std.proofs.Common.{lit≤, lit<}
 use Rattle.si_time.specs.declared.moment.Moment.{Moment}
 use Rattle.mux_model.specs.declared.mux.Mux.{Mux}
@@ -12,7 +12,7 @@ row_start = record { 0 = 3506716800 }
 
 abbrev pub row_mux : Mux
 row_mux = mux_of 40 (codes "Demo") 1 1 row_start 200
-    (record { service = 101; feed = 1; kind = 1; pmt_pid = 256; pcr_pid = 257; provider = codes "Acme"; name = codes "One"; scrambled = false; components = []; descriptors = []; program_descriptors = [] } ∷ [])
+    (record { service = 101; feed = 1; kind = 1; pmt_pid = 256; pcr_pid = 257; provider = codes "Acme"; name = codes "One"; components = []; descriptors = []; program_descriptors = [] } ∷ [])
 
 pub row_sound : IsSound row_mux
 row_sound = record {

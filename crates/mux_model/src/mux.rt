@@ -7,9 +7,8 @@ use si_time::Moment;
 use std::alloc::AllocError;
 
 /// A service of the multiplex: its service_id, the number of the feed that edits it, its service_type (EN 300 468, 6.2.33),
-/// the PIDs of its PMT and of its clock reference (ISO/IEC 13818-1, 2.4.4.8), its first names, whether it is scrambled
-/// (free_CA_mode, EN 300 468, 5.2.3 and 5.2.4), its components, and the further descriptors that its entry of the SDT and its
-/// program have.
+/// the PIDs of its PMT and of its clock reference (ISO/IEC 13818-1, 2.4.4.8), its first names and its components, and the
+/// further descriptors that its entry of the SDT and its program have.
 #[derive(Drop)]
 pub struct MuxService {
     pub service: u16,
@@ -19,7 +18,6 @@ pub struct MuxService {
     pub pcr_pid: u16,
     pub provider: Txt,
     pub name: Txt,
-    pub scrambled: bool,
     pub components: Components,
     pub descriptors: RawDescs,
     pub program_descriptors: RawDescs,
@@ -29,8 +27,8 @@ pub struct MuxService {
 pub type MuxServices = Items<MuxService>;
 
 /// A service of another stream: its service_id, the number of the feed that edits it, its
-/// service_type (EN 300 468, 6.2.33), its first names, whether it is scrambled (free_CA_mode, 5.2.3 and
-/// 5.2.4), and the further descriptors that its entry of the SDT of that stream has.
+/// service_type (EN 300 468, 6.2.33), its first names, and the further descriptors that its entry of
+/// the SDT of that stream has.
 #[derive(Drop)]
 pub struct RemoteService {
     pub service: u16,
@@ -38,7 +36,6 @@ pub struct RemoteService {
     pub kind: u8,
     pub provider: Txt,
     pub name: Txt,
-    pub scrambled: bool,
     pub descriptors: RawDescs,
 }
 
@@ -93,7 +90,6 @@ impl Copies for MuxService {
             pcr_pid: self.pcr_pid,
             provider: self.provider.copy()?,
             name: self.name.copy()?,
-            scrambled: self.scrambled,
             components: self.components.copy()?,
             descriptors: self.descriptors.copy()?,
             program_descriptors: self.program_descriptors.copy()?,
@@ -109,7 +105,6 @@ impl Copies for RemoteService {
             kind: self.kind,
             provider: self.provider.copy()?,
             name: self.name.copy()?,
-            scrambled: self.scrambled,
             descriptors: self.descriptors.copy()?,
         })
     }

@@ -18,9 +18,7 @@ use Rattle.section_codec.specs.Segments.{segment_of, last_beside, segment_last_i
 use Rattle.table_bodies.specs.declared.eit.EitHead.{EitHead}
 use Rattle.table_bodies.specs.declared.eit.Eit.{Eit}
 use Rattle.table_bodies.specs.Eit.{head_bytes, written_bytes, eit_body, IsCodable, IsTyped, eit_in, shown_event}
-use Rattle.table_bodies.specs.Entries.{flags_of}
 use Rattle.table_bodies.proofs.ReadBack.{entry-has_its_size, eit-reads_back}
-use Rattle.table_bodies.proofs.Services.{flags_small}
 use Rattle.eit_segments.specs.declared.event.EventAt.{EventAt}
 use Rattle.eit_segments.specs.declared.piece.Piece.{Piece}
 use Rattle.eit_segments.specs.Placement.{in_block, start_block, block_place, present_at, following_at}
@@ -82,17 +80,15 @@ small_at (Some i) es small = small_one i es small
 pub present_fit : PresentIsFit
 present_fit bearer moment service small =
     let h = eit_head bearer 1 bearer.present in
-    let running = flags_of 4 (bearer.scrambled service.service) in
-    let not_running = flags_of 1 (bearer.scrambled service.service) in
-    let on = flat_map (written_bytes running) (present_event moment service.events) in
-    let next = flat_map (written_bytes not_running) (following_event moment service.events) in
+    let on = flat_map (written_bytes 4) (present_event moment service.events) in
+    let next = flat_map (written_bytes 1) (following_event moment service.events) in
     let zeroth : segment_last_in 0 (head_bytes h ++ on) ≡ Some 1 = tells h on 0 refl in
     let first : segment_last_in 1 (head_bytes h ++ next) ≡ Some 1 = tells h next 1 refl in
     record {
       below = omega arith;
       bodies = (
-        body_fits h running (present_event moment service.events) (small_at _ service.events small),
-        (body_fits h not_running (following_event moment service.events) (small_at _ service.events small), tt),
+        body_fits h 4 (present_event moment service.events) (small_at _ service.events small),
+        (body_fits h 1 (following_event moment service.events) (small_at _ service.events small), tt),
       );
       by_segments = record {
         some = omega arith;
@@ -114,9 +110,9 @@ length-from : (table last segment_last number from : ℕ) (runs : List (List Eve
 length-from table last segment_last number from [] = refl
 length-from table last segment_last number from (run ∷ runs) = omega (arith, length-from table last segment_last (1 + number) (from + length run) runs)
 
-module _ (bearer : Bearer) (scrambled : Bool) (events : List Event) (end : ℕ) where
+module _ (bearer : Bearer) (events : List Event) (end : ℕ) where
   abbrev made : Piece → NumberedBody
-  made = schedule_section bearer scrambled events end
+  made = schedule_section bearer events end
 
   made_numbers : (ps : List Piece) → numbers (map made ps) ≡ map (λ (p : Piece). p.number) ps
   made_numbers [] = refl
@@ -152,7 +148,7 @@ module _ (bearer : Bearer) (scrambled : Bool) (events : List Event) (end : ℕ) 
     where
       go : (b : Bool) → segment_last_at (map made ps) n ≡ told_last ps n → told_by (if b then Some (made p) else find (λ (s : NumberedBody). segment_of s.number == n) (map made ps))
           ≡ option_map (λ (q : Piece). q.segment_last) (if b then Some p else find (λ (q : Piece). segment_of q.number == n) ps)
-      go true rest = tells (eit_head bearer p.segment_last end) (flat_map (written_bytes (flags_of 0 scrambled)) (section_events p events)) p.number (all.0).0
+      go true rest = tells (eit_head bearer p.segment_last end) (flat_map (written_bytes 0) (section_events p events)) p.number (all.0).0
       go false rest = rest
 
   -- the entries of each section fit
@@ -174,12 +170,11 @@ module _ (bearer : Bearer) (scrambled : Bool) (events : List Event) (end : ℕ) 
       (subst (λ (l : List (List EventAt)). AllByRecursion (λ (r : List EventAt). sum_by (λ (e : EventAt). e.size) r ≤ 4078) l) (sym (segments_have_runs table last segment block ats placed)) runs))
 
 -- the sections of a table, by its first block
-table_fit : (bearer : Bearer) (scrambled : Bool) (events : List Event) (end table first : ℕ) → CanBePlaced (map at_of events)
-    → AreEit (map (schedule_section bearer scrambled events end) (table_sections table first (map at_of events)))
-table_fit bearer scrambled events end table first placed =
+table_fit : (bearer : Bearer) (events : List Event) (end table first : ℕ) → CanBePlaced (map at_of events)
+    → AreEit (map (schedule_section bearer events end) (table_sections table first (map at_of events)))
+table_fit bearer events end table first placed =
     let ats = map at_of events in
-    let flags = flags_of 0 scrambled in
-    let made = schedule_section bearer scrambled events end in
+    let made = schedule_section bearer events end in
     let ps = table_sections table first ats in
     let used = last_used first 32 ats in
     let less : used < 32 = used_less first 32 ats (omega arith) in
@@ -192,37 +187,36 @@ table_fit bearer scrambled events end table first placed =
     let whole = tables_are_whole table first ats placed.fit in
     let last : last_number (map made ps) ≡ last_in_table first ats =
     ap (λ (l : List Piece). last_number (map made l)) parts
-    ∙ last_of bearer scrambled events end before table (last_in_table first ats) (8 * used + (length runs - 1)) (8 * used) (block_place (first + used) ats) runs few.0 in
+    ∙ last_of bearer events end before table (last_in_table first ats) (8 * used + (length runs - 1)) (8 * used) (block_place (first + used) ats) runs few.0 in
     let size = length-from table (last_in_table first ats) (8 * used + (length runs - 1)) (8 * used) (block_place (first + used) ats) runs in
     record {
       below = omega (arith, last, less, few.0, few.1);
       bodies = all_to_map (λ (s : NumberedBody). (6 ≤ length s.body) × (length s.body ≤ 4084)) made ps
           (all_map (λ (p : Piece). sum_by entry_size (section_events p events) ≤ 4078) (λ (p : Piece). (6 ≤ length (made p).body) × (length (made p).body ≤ 4084))
-          (λ p h. body_fits (eit_head bearer p.segment_last end) flags (section_events p events) h) ps
-          (each_flat (λ (p : Piece). sum_by entry_size (section_events p events) ≤ 4078) of (λ segment. segment_fits bearer scrambled events end placed table (last_in_table first ats) segment (first + segment)) (range_with_len 0 (used + 1))));
+          (λ p h. body_fits (eit_head bearer p.segment_last end) 0 (section_events p events) h) ps
+          (each_flat (λ (p : Piece). sum_by entry_size (section_events p events) ≤ 4078) of (λ segment. segment_fits bearer events end placed table (last_in_table first ats) segment (first + segment)) (range_with_len 0 (used + 1))));
       by_segments = record {
         some = omega (arith, length-map ps made, ap length parts, length-append before (of used), size, few.0);
-        ascending = made_ascend bearer scrambled events end 0 ps (table_rises table first ats placed.fit);
+        ascending = made_ascend bearer events end 0 ps (table_rises table first ats placed.fit);
         needed = ap (table_needs (segment_last_at (map made ps))) last
-            ∙ needs_same (segment_last_at (map made ps)) (told_last ps) (made_told bearer scrambled events end ps inside) 0 (1 + segment_of (last_in_table first ats))
-            ∙ whole.numbers ∙ ap Some (sym (made_numbers bearer scrambled events end ps));
+            ∙ needs_same (segment_last_at (map made ps)) (told_last ps) (made_told bearer events end ps inside) 0 (1 + segment_of (last_in_table first ats))
+            ∙ whole.numbers ∙ ap Some (sym (made_numbers bearer events end ps));
         agree = all_to_map (λ (s : NumberedBody). segment_last_in s.number s.body ≡ segment_last_at (map made ps) (segment_of s.number)) made ps
             (all_two IsInSegment (λ (p : Piece). told_last ps (segment_of p.number) ≡ Some p.segment_last) (λ (p : Piece). segment_last_in p.number (made p).body ≡ segment_last_at (map made ps) (segment_of p.number))
-            (λ p i t. tells (eit_head bearer p.segment_last end) (flat_map (written_bytes flags) (section_events p events)) p.number i.0
-            ∙ sym t ∙ sym (made_told bearer scrambled events end ps inside (segment_of p.number)))
+            (λ p i t. tells (eit_head bearer p.segment_last end) (flat_map (written_bytes 0) (section_events p events)) p.number i.0
+            ∙ sym t ∙ sym (made_told bearer events end ps inside (segment_of p.number)))
             ps inside whole.segment_last);
       };
       told = all_to_map (λ (s : NumberedBody). (n : ℕ) × (segment_last_in s.number s.body ≡ Some n) × (n ≤ last_number (map made ps))) made ps
           (all_two IsInSegment (λ (p : Piece). p.segment_last ≤ last_in_table first ats) (λ (p : Piece). (n : ℕ) × (segment_last_in p.number (made p).body ≡ Some n) × (n ≤ last_number (map made ps)))
-          (λ p i b. (p.segment_last, tells (eit_head bearer p.segment_last end) (flat_map (written_bytes flags) (section_events p events)) p.number i.0, omega (arith, b, last)))
+          (λ p i b. (p.segment_last, tells (eit_head bearer p.segment_last end) (flat_map (written_bytes 0) (section_events p events)) p.number i.0, omega (arith, b, last)))
           ps inside (table_below table first ats placed.fit));
     }
 
 -- and of a service whose events can be placed, whatever its names are
 pub placed_fit : (bearer : Bearer) (day : ℕ) (service : ServiceGuide) (table : ℕ) → CanBePlaced (map at_of service.events) → AreEit (schedule_of bearer day service table).sections
 placed_fit bearer day service table placed =
-    table_fit bearer (bearer.scrambled service.service) service.events (bearer.sent (last_table_of day service.events)) table
-    (block_of day + 32 * (table - 0x50)) placed
+    table_fit bearer service.events (bearer.sent (last_table_of day service.events)) table (block_of day + 32 * (table - 0x50)) placed
 
 pub schedule_fit : ScheduleIsFit
 schedule_fit bearer day service table within small = placed_fit bearer day service table (events_can_be_placed service.events within.events small)
@@ -235,25 +229,24 @@ each_piece P each (x ∷ xs) = (each x, each_piece P each xs)
 
 pub events_name : EventsNameTheStream
 events_name bearer moment service table stream original =
-    let scrambled = bearer.scrambled service.service in
-    let made = schedule_section bearer scrambled service.events (bearer.sent (last_table_of moment service.events)) in
+    let made = schedule_section bearer service.events (bearer.sent (last_table_of moment service.events)) in
     let ps = sections_in_table moment table (map at_of service.events) in (
       (
-        body_names bearer 1 bearer.present (flags_of 4 scrambled) (present_event moment service.events) stream original,
-        (body_names bearer 1 bearer.present (flags_of 1 scrambled) (following_event moment service.events) stream original, tt),
+        body_names bearer 1 bearer.present 4 (present_event moment service.events) stream original,
+        (body_names bearer 1 bearer.present 1 (following_event moment service.events) stream original, tt),
       ),
       all_to_map (λ (s : NumberedBody). Names bearer s.body) made ps
-          (each_piece (λ (p : Piece). Names bearer (made p).body) (λ p. body_names bearer p.segment_last (bearer.sent (last_table_of moment service.events)) (flags_of 0 scrambled) (section_events p service.events) stream original) ps),
+          (each_piece (λ (p : Piece). Names bearer (made p).body) (λ p. body_names bearer p.segment_last (bearer.sent (last_table_of moment service.events)) 0 (section_events p service.events) stream original) ps),
     )
 
 -- ---- bodies are read
 
-part_coded : (events part : List Event) → ((P : Event → Type 0) → All P events → All P part) → All IsCodable events → All IsTyped events → (bearer : Bearer) (segment_last last_table status : ℕ) (scrambled : Bool)
-    → bearer.stream < 65536 → bearer.original < 65536 → status < 8 → (eit : Eit) × (eit_in (eit_body (eit_head bearer segment_last last_table) (flags_of status scrambled) part) ≡ Some eit)
-part_coded events part of codable typed bearer segment_last last_table status scrambled stream original small =
+part_coded : (events part : List Event) → ((P : Event → Type 0) → All P events → All P part) → All IsCodable events → All IsTyped events → (bearer : Bearer) (segment_last last_table status : ℕ)
+    → bearer.stream < 65536 → bearer.original < 65536 → status < 8 → (eit : Eit) × (eit_in (eit_body (eit_head bearer segment_last last_table) status part) ≡ Some eit)
+part_coded events part of codable typed bearer segment_last last_table status stream original small =
     let h = eit_head bearer segment_last last_table in (
       record { head = h; events = map shown_event part },
-      eit-reads_back h (flags_of status scrambled) part (record { stream = stream; original = original }) (flags_small status scrambled small) (of IsCodable codable) (of IsTyped typed),
+      eit-reads_back h status part (record { stream = stream; original = original }) small (of IsCodable codable) (of IsTyped typed),
     )
 
 at_place : (place : Option ℕ) (es : List Event) (P : Event → Type 0) → All P es → All P (event_at place es)
@@ -265,14 +258,13 @@ events_read bearer moment service table stream original within typed =
     let es = service.events in
     let codable = all_codable es within.events.each in
     let types = All-from_recursion IsTyped es typed in
-    let scrambled = bearer.scrambled service.service in
-    let made = schedule_section bearer scrambled es (bearer.sent (last_table_of moment es)) in
+    let made = schedule_section bearer es (bearer.sent (last_table_of moment es)) in
     let ps = sections_in_table moment table (map at_of es) in (
       (
-        part_coded es (present_event moment es) (at_place (present_at moment (map at_of es)) es) codable types bearer 1 bearer.present 4 scrambled stream original (omega arith),
-        (part_coded es (following_event moment es) (at_place (following_at moment (map at_of es)) es) codable types bearer 1 bearer.present 1 scrambled stream original (omega arith), tt),
+        part_coded es (present_event moment es) (at_place (present_at moment (map at_of es)) es) codable types bearer 1 bearer.present 4 stream original (omega arith),
+        (part_coded es (following_event moment es) (at_place (following_at moment (map at_of es)) es) codable types bearer 1 bearer.present 1 stream original (omega arith), tt),
       ),
       all_to_map (λ (s : NumberedBody). (eit : Eit) × (eit_in s.body ≡ Some eit)) made ps
           (each_piece (λ (p : Piece). (eit : Eit) × (eit_in (made p).body ≡ Some eit))
-          (λ p. part_coded es (section_events p es) (λ P all. All-take P (p.to - p.from) (drop p.from es) (All-drop P p.from es all)) codable types bearer p.segment_last (bearer.sent (last_table_of moment es)) 0 scrambled stream original (omega arith)) ps),
+          (λ p. part_coded es (section_events p es) (λ P all. All-take P (p.to - p.from) (drop p.from es) (All-drop P p.from es all)) codable types bearer p.segment_last (bearer.sent (last_table_of moment es)) 0 stream original (omega arith)) ps),
     )

@@ -1,46 +1,23 @@
 -- What the event information tables of a service have in common (EN 300 468, 5.2.4).
-use Rattle.std.specs.Prelude.{ℕ, ◌+◌, Bool, ◌==◌, ◌&&◌, List}
-use Rattle.std.specs.List.{list_any}
-use Rattle.mux_model.specs.declared.mux.MuxService.{MuxService}
-use Rattle.mux_model.specs.declared.mux.RemoteService.{RemoteService}
+use Rattle.std.specs.Prelude.{ℕ, ◌+◌}
 use Rattle.mux_model.specs.declared.mux.Mux.{Mux}
 use Rattle.section_codec.specs.declared.table.Key.{Key}
 use Rattle.table_bodies.specs.declared.eit.EitHead.{EitHead}
 
 -- The stream that carries a service, as event information names it: transport_stream_id, original_network_id, the table_id of present
--- and following, the table_id under which each table 0x50 to 0x5F of a schedule is sent, and which services are scrambled, by their ids.
+-- and following, and the table_id under which each table 0x50 to 0x5F of a schedule is sent.
 pub record Bearer : Type 0 where
   pub stream : ℕ
   pub original : ℕ
   pub present : ℕ
   pub sent : ℕ → ℕ
-  pub scrambled : ℕ → Bool
-
--- whether an own service with this id is scrambled; whether one of another stream is
-abbrev pub own_scrambled : List MuxService → ℕ → Bool
-own_scrambled services id = list_any (λ (s : MuxService). s.service == id && s.scrambled) services
-
-abbrev pub remote_scrambled : List RemoteService → ℕ → Bool
-remote_scrambled services id = list_any (λ (s : RemoteService). s.service == id && s.scrambled) services
 
 -- the stream of this multiplex, and another one
 abbrev pub own : Mux → Bearer
-own mux = record {
-  stream = mux.stream;
-  original = mux.original;
-  present = 0x4E;
-  sent = λ table. table;
-  scrambled = own_scrambled mux.services;
-}
+own mux = record { stream = mux.stream; original = mux.original; present = 0x4E; sent = λ table. table }
 
-abbrev pub another : ℕ → ℕ → (ℕ → Bool) → Bearer
-another stream original scrambled = record {
-  stream = stream;
-  original = original;
-  present = 0x4F;
-  sent = λ table. table + 0x10;
-  scrambled = scrambled;
-}
+abbrev pub another : ℕ → ℕ → Bearer
+another stream original = record { stream = stream; original = original; present = 0x4F; sent = λ table. table + 0x10 }
 
 -- what names a table of a service: PID 0x0012, table_id, service_id, transport_stream_id and original_network_id
 abbrev pub bearer_key : Bearer → ℕ → ℕ → Key

@@ -1,5 +1,5 @@
 -- Worked tables of event information.
-use Rattle.std.specs.Prelude.{◌≡◌, ℕ, ◌+◌, ◌*◌, Bool, true, false, List, [], ◌∷◌, ◌++◌, codes, map, None, refl}
+use Rattle.std.specs.Prelude.{◌≡◌, ℕ, ◌+◌, ◌*◌, List, [], ◌∷◌, ◌++◌, codes, map, None, refl}
 use Rattle.guide_model.specs.Cutting.{pieces, first_pieces}
 use Rattle.si_time.specs.Moments.{moment_bcd, duration_bcd}
 use Rattle.guide_model.specs.declared.event.Event.{Event}
@@ -10,9 +10,9 @@ use Rattle.mux_model.specs.Muxes.{mux_of}
 use Rattle.section_codec.specs.declared.table.NumberedBody.{NumberedBody}
 use Rattle.section_codec.specs.declared.table.SubTable.{SubTable}
 use Rattle.section_codec.specs.declared.table.Tier3.{Tier3}
-use Rattle.section_codec.specs.declared.table.Tier3.TheVariants.{Fast, Near, Far}
+use Rattle.section_codec.specs.declared.table.Tier3.TheVariants.{Near, Far}
 use Rattle.publication.specs.Eit.{own, another}
-use Rattle.publication.specs.Present.{present_sections, present_of, present_table}
+use Rattle.publication.specs.Present.{present_sections, present_of}
 use Rattle.publication.specs.Schedule.{schedule_table, near_tables, far_tables, remote_tables}
 
 abbrev mux_with : List MuxService → Mux
@@ -46,7 +46,7 @@ with_events events = record { service = 101; provider = codes "Acme"; name = cod
 
 -- ---- nothing published: present and following without an event, and one empty section of table 0x50
 
-nothing_present : present_sections (own (mux_with [])) false 4257187200 [] ≡ record { number = 0; body = head 1 0x4E } ∷ record { number = 1; body = head 1 0x4E } ∷ []
+nothing_present : present_sections (own (mux_with [])) 4257187200 [] ≡ record { number = 0; body = head 1 0x4E } ∷ record { number = 1; body = head 1 0x4E } ∷ []
 nothing_present = refl
 
 nothing_scheduled : near_tables (mux_with []) 4257187200 (with_events []) ≡ eit 101 0x50 Near (record { number = 0; body = head 0 0x50 } ∷ []) ∷ []
@@ -75,7 +75,7 @@ unfolding moment_bcd duration_bcd pieces first_pieces
 at_one = refl
 
 -- over midnight, at a quarter past: present with running_status 4, and none follows; the day's table is empty
-over_midnight : present_sections (own (mux_with [])) false 4257274500 (news 9 84600 3600 ∷ [])
+over_midnight : present_sections (own (mux_with [])) 4257274500 (news 9 84600 3600 ∷ [])
     ≡ bodies (0 ∷ 1 ∷ []) ((head 1 0x4E ++ entry 9 (0x23 ∷ 0x30 ∷ 0x00 ∷ []) (0x01 ∷ 0x00 ∷ 0x00 ∷ []) 4) ∷ head 1 0x4E ∷ [])
 unfolding moment_bcd duration_bcd pieces first_pieces
 over_midnight = refl
@@ -85,7 +85,7 @@ unfolding moment_bcd duration_bcd pieces first_pieces
 day_after = refl
 
 -- before it begins: none is present, and it follows with running_status 1
-follows : present_sections (own (mux_with [])) false 4257271799 (news 9 84600 3600 ∷ [])
+follows : present_sections (own (mux_with [])) 4257271799 (news 9 84600 3600 ∷ [])
     ≡ bodies (0 ∷ 1 ∷ []) (head 1 0x4E ∷ (head 1 0x4E ++ entry 9 (0x23 ∷ 0x30 ∷ 0x00 ∷ []) (0x01 ∷ 0x00 ∷ 0x00 ∷ []) 1) ∷ [])
 unfolding moment_bcd duration_bcd pieces first_pieces
 follows = refl
@@ -117,72 +117,12 @@ other_head segment_last last_table = 0x00 ∷ 0x03 ∷ 0x00 ∷ 0x04 ∷ segment
 abbrev other_eit : ℕ → Tier3 → List NumberedBody → SubTable
 other_eit table tier sections = record { key = record { pid = 18; table = table; ext = 101; stream = 3; network = 4 }; tier = tier; sections = sections }
 
--- none of its services is scrambled
-abbrev none : ℕ → Bool
-none id = false
-
-other_present : present_of (another 3 4 none) 4257187200 (with_events []) ≡ other_eit 0x4F Near (bodies (0 ∷ 1 ∷ []) (other_head 1 0x4F ∷ other_head 1 0x4F ∷ []))
+other_present : present_of (another 3 4) 4257187200 (with_events []) ≡ other_eit 0x4F Near (bodies (0 ∷ 1 ∷ []) (other_head 1 0x4F ∷ other_head 1 0x4F ∷ []))
 other_present = refl
 
-other_scheduled : remote_tables (another 3 4 none) 4257187200 (with_events []) ≡ other_eit 0x60 Far (bodies (0 ∷ []) (other_head 0 0x60 ∷ [])) ∷ []
+other_scheduled : remote_tables (another 3 4) 4257187200 (with_events []) ≡ other_eit 0x60 Far (bodies (0 ∷ []) (other_head 0 0x60 ∷ [])) ∷ []
 other_scheduled = refl
 
 -- one event eight days later: tables 0x60 to 0x62, all Far, which all name the last table 0x62
-other_later : map (λ (t : SubTable). t.key.table) (remote_tables (another 3 4 none) 4256496000 (with_events (news 9 84600 3600 ∷ []))) ≡ 0x60 ∷ 0x61 ∷ 0x62 ∷ []
+other_later : map (λ (t : SubTable). t.key.table) (remote_tables (another 3 4) 4256496000 (with_events (news 9 84600 3600 ∷ []))) ≡ 0x60 ∷ 0x61 ∷ 0x62 ∷ []
 other_later = refl
-
--- ---- a service that is scrambled: free_CA_mode is 1 in the entry of each event, beside the same running_status (EN 300 468, 5.2.4)
-
-abbrev pay : MuxService
-pay = record {
-  service = 101;
-  feed = 1;
-  kind = 1;
-  pmt_pid = 256;
-  pcr_pid = 257;
-  provider = codes "Acme";
-  name = codes "News";
-  scrambled = true;
-  components = [];
-  descriptors = [];
-  program_descriptors = [];
-}
-
--- the same entry with free_CA_mode 1
-abbrev locked : ℕ → List ℕ → List ℕ → ℕ → List ℕ
-locked id start duration status =
-    0x00 ∷ id ∷ 0xC0 ∷ 0x79 ∷ start ++ duration ++ (32 * status + 16) ∷ 0x0B
-    ∷ 0x4D ∷ 0x09 ∷ 0x65 ∷ 0x6E ∷ 0x67 ∷ 0x04 ∷ 0x4E ∷ 0x65 ∷ 0x77 ∷ 0x73 ∷ 0x00 ∷ []
-
--- 0x90 of the present event and 0x30 of the following one
-scrambled_present : present_table (mux_with (pay ∷ [])) 4257274500 (with_events (news 9 84600 3600 ∷ news 10 90000 1800 ∷ []))
-    ≡ eit 101 0x4E Fast (bodies (0 ∷ 1 ∷ [])
-    ((head 1 0x4E ++ locked 9 (0x23 ∷ 0x30 ∷ 0x00 ∷ []) (0x01 ∷ 0x00 ∷ 0x00 ∷ []) 4)
-    ∷ (head 1 0x4E
-    ++ 0x00 ∷ 0x0A ∷ 0xC0 ∷ 0x7A ∷ 0x01 ∷ 0x00 ∷ 0x00 ∷ 0x00 ∷ 0x30 ∷ 0x00 ∷ 0x30 ∷ 0x0B
-    ∷ 0x4D ∷ 0x09 ∷ 0x65 ∷ 0x6E ∷ 0x67 ∷ 0x04 ∷ 0x4E ∷ 0x65 ∷ 0x77 ∷ 0x73 ∷ 0x00 ∷ []) ∷ []))
-unfolding moment_bcd duration_bcd pieces first_pieces
-scrambled_present = refl
-
--- 0x10 in the schedule
-scrambled_at_one : schedule_table (mux_with (pay ∷ [])) 4257187200 (with_events (news 7 46800 1800 ∷ [])) 0x50
-    ≡ eit 101 0x50 Near (bodies (0 ∷ 8 ∷ 16 ∷ 24 ∷ 32 ∷ [])
-    (head 0 0x50 ∷ head 8 0x50 ∷ head 16 0x50 ∷ head 24 0x50
-    ∷ (head 32 0x50 ++ locked 7 (0x13 ∷ 0x00 ∷ 0x00 ∷ []) (0x00 ∷ 0x30 ∷ 0x00 ∷ []) 0) ∷ []))
-unfolding moment_bcd duration_bcd pieces first_pieces
-scrambled_at_one = refl
-
--- another service beside it is not scrambled
-abbrev free : ServiceGuide
-free = record { service = 102; provider = codes "Acme"; name = codes "Free"; events = news 9 84600 3600 ∷ [] }
-
-free_beside : (present_table (mux_with (pay ∷ record pay { service = 102; scrambled = false } ∷ [])) 4257274500 free).sections
-    ≡ present_sections (own (mux_with [])) false 4257274500 (news 9 84600 3600 ∷ [])
-unfolding moment_bcd duration_bcd pieces first_pieces
-free_beside = refl
-
--- a service of another stream is scrambled by that stream's services
-other_scrambled : (present_of (another 3 4 (λ id. true)) 4257274500 (with_events (news 9 84600 3600 ∷ []))).sections
-    ≡ bodies (0 ∷ 1 ∷ []) ((other_head 1 0x4F ++ locked 9 (0x23 ∷ 0x30 ∷ 0x00 ∷ []) (0x01 ∷ 0x00 ∷ 0x00 ∷ []) 4) ∷ other_head 1 0x4F ∷ [])
-unfolding moment_bcd duration_bcd pieces first_pieces
-other_scrambled = refl

@@ -1,12 +1,11 @@
 -- Present and following of a service (EN 300 468, 5.2.4).
-use Rattle.std.specs.Prelude.{ℕ, Bool, List, [], ◌∷◌, take, drop, map, Option, Some, None}
+use Rattle.std.specs.Prelude.{ℕ, List, [], ◌∷◌, take, drop, map, Option, Some, None}
 use Rattle.guide_model.specs.declared.event.Event.{Event}
 use Rattle.guide_model.specs.declared.guide.ServiceGuide.{ServiceGuide}
 use Rattle.mux_model.specs.declared.mux.Mux.{Mux}
 use Rattle.section_codec.specs.declared.table.NumberedBody.{NumberedBody}
 use Rattle.section_codec.specs.declared.table.SubTable.{SubTable}
 use Rattle.section_codec.specs.Tables.{tier_of}
-use Rattle.table_bodies.specs.Entries.{flags_of}
 use Rattle.table_bodies.specs.Eit.{eit_body}
 use Rattle.eit_segments.specs.Placement.{present_at, following_at}
 use Rattle.eit_segments.specs.Laws.{at_of}
@@ -24,12 +23,12 @@ present_event moment events = event_at (present_at moment (map at_of events)) ev
 abbrev pub following_event : ℕ → List Event → List Event
 following_event moment events = event_at (following_at moment (map at_of events)) events
 
--- section 0 has the present event with running_status 4 (running), section 1 the following one with 1 (not running), of a service that is
--- scrambled or not; without one the section is empty. Both have segment_last_section_number 1 and their own table_id as last_table_id.
-abbrev pub present_sections : Bearer → Bool → ℕ → List Event → List NumberedBody
-present_sections b scrambled moment events =
-    record { number = 0; body = eit_body (eit_head b 1 b.present) (flags_of 4 scrambled) (present_event moment events) }
-    ∷ record { number = 1; body = eit_body (eit_head b 1 b.present) (flags_of 1 scrambled) (following_event moment events) }
+-- section 0 has the present event with running_status 4 (running), section 1 the following one with 1 (not running); without one
+-- the section is empty. Both have segment_last_section_number 1 and their own table_id as last_table_id.
+abbrev pub present_sections : Bearer → ℕ → List Event → List NumberedBody
+present_sections b moment events =
+    record { number = 0; body = eit_body (eit_head b 1 b.present) 4 (present_event moment events) }
+    ∷ record { number = 1; body = eit_body (eit_head b 1 b.present) 1 (following_event moment events) }
     ∷ []
 
 -- present and following of a service of a stream at a moment
@@ -37,7 +36,7 @@ abbrev pub present_of : Bearer → ℕ → ServiceGuide → SubTable
 present_of b moment service = record {
   key = bearer_key b b.present service.service;
   tier = tier_of b.present;
-  sections = present_sections b (b.scrambled service.service) moment service.events;
+  sections = present_sections b moment service.events;
 }
 
 -- present and following of a service of this multiplex

@@ -1,5 +1,5 @@
 -- The schedule of a service, table by table (EN 300 468, 5.2.4).
-use Rattle.std.specs.Prelude.{ℕ, ◌+◌, ◌-◌, Bool, List, map, min}
+use Rattle.std.specs.Prelude.{ℕ, ◌+◌, ◌-◌, List, map, min}
 use Rattle.std.specs.List.{range_with_len}
 use Rattle.guide_model.specs.declared.event.Event.{Event}
 use Rattle.guide_model.specs.declared.guide.ServiceGuide.{ServiceGuide}
@@ -7,7 +7,6 @@ use Rattle.mux_model.specs.declared.mux.Mux.{Mux}
 use Rattle.section_codec.specs.Tables.{tier_of}
 use Rattle.section_codec.specs.declared.table.NumberedBody.{NumberedBody}
 use Rattle.section_codec.specs.declared.table.SubTable.{SubTable}
-use Rattle.table_bodies.specs.Entries.{flags_of}
 use Rattle.table_bodies.specs.Eit.{eit_body}
 use Rattle.eit_segments.specs.declared.piece.Piece.{Piece}
 use Rattle.eit_segments.specs.Schedule.{last_table, sections_in_table, section_events}
@@ -18,21 +17,17 @@ use Rattle.publication.specs.Eit.{Bearer, own, bearer_key, eit_head}
 abbrev pub last_table_of : ℕ → List Event → ℕ
 last_table_of day events = last_table day (map at_of events)
 
--- a section: its section_number, and its events with running_status 0 (undefined), of a service that is scrambled or not
-abbrev pub schedule_section : Bearer → Bool → List Event → ℕ → Piece → NumberedBody
-schedule_section b scrambled events last_table piece = record {
-  number = piece.number;
-  body = eit_body (eit_head b piece.segment_last last_table) (flags_of 0 scrambled) (section_events piece events);
-}
+-- a section: its section_number, and its events with running_status 0 (undefined)
+abbrev pub schedule_section : Bearer → List Event → ℕ → Piece → NumberedBody
+schedule_section b events last_table piece =
+    record { number = piece.number; body = eit_body (eit_head b piece.segment_last last_table) 0 (section_events piece events) }
 
 -- a table 0x50 to 0x5F of the schedule of a service of a stream, which is sent under that stream's table_id
 abbrev pub schedule_of : Bearer → ℕ → ServiceGuide → ℕ → SubTable
 schedule_of b day service table = record {
   key = bearer_key b (b.sent table) service.service;
   tier = tier_of (b.sent table);
-  sections =
-      map (schedule_section b (b.scrambled service.service) service.events (b.sent (last_table_of day service.events)))
-      (sections_in_table day table (map at_of service.events));
+  sections = map (schedule_section b service.events (b.sent (last_table_of day service.events))) (sections_in_table day table (map at_of service.events));
 }
 
 -- such a table of a service of this multiplex

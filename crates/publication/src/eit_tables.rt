@@ -46,7 +46,7 @@ pub fn put_service(
     let day = midnight(moment);
     let last = last_table(&at, day);
     let later = LAST_NEAR + 1;
-    let of = Stream::of_mux(mux, service.service);
+    let of = Stream::of_mux(mux);
     list.push(present_table(alloc, of, moment, service, &at)?)?;
     put_schedule(
         alloc,

@@ -1,17 +1,16 @@
 // Events as their place depends on them, and bodies of event information.
-ghost use Rattle.std.specs.Prelude.{◌≡◌, ◌==◌, ◌&&◌, ◌≤◌, ◌<◌, map, IfOk};
+ghost use Rattle.std.specs.Prelude.{◌≡◌, ◌≤◌, ◌<◌, map, IfOk};
 ghost use Rattle.std.specs.List.{All};
 ghost use Rattle.descriptors.specs.EventDescriptors.{IsWithinLimits};
 ghost use Rattle.eit_segments.specs.declared.event.EventAt.{EventAt as EventShape};
 ghost use Rattle.eit_segments.specs.Laws.{at_of};
-ghost use Rattle.publication.specs.Eit.{own, own_scrambled, remote_scrambled, bearer_key, eit_head};
-ghost use Rattle.publication.specs.Streams.{bearer_of, of_service};
-ghost use Rattle.publication.specs.Tables.{bearer_of as other_bearer};
+ghost use Rattle.publication.specs.Eit.{own, bearer_key, eit_head};
+ghost use Rattle.publication.specs.Streams.{bearer_of};
 
 use descriptors::event_len;
 use eit_segments::EventAt;
 use guide_model::Event;
-use mux_model::{Mux, MuxService, Other, RemoteService};
+use mux_model::Mux;
 use section_codec::Key;
 use std::alloc::{AllocError, Global};
 use table_bodies::EitHead;
@@ -19,38 +18,23 @@ use table_bodies::EitHead;
 /// The PID of the event information tables (EN 300 468, 5.1.3).
 const EIT_PID: u16 = 0x0012;
 
-/// The stream that carries a service: whether it is that of this multiplex, its transport_stream_id and its original_network_id,
-/// and whether the service is scrambled.
+/// The stream that carries a service: whether it is that of this multiplex, its transport_stream_id and its original_network_id.
 #[derive(Clone, Copy)]
 pub struct Stream {
     pub is_own: bool,
     pub stream: u16,
     pub original: u16,
-    pub scrambled: bool,
 }
 
 impl Stream {
-    /// The stream of this multiplex, with its service of this id.
-    pub fn of_mux(mux: &Mux, service: u16) -> Stream
-        ensures { bearer_of result ≡ of_service (own mux.now) service }
+    /// The stream of this multiplex.
+    pub fn of_mux(mux: &Mux) -> Stream
+        ensures { bearer_of result ≡ own mux.now }
     {
         Stream {
             is_own: true,
             stream: mux.stream,
             original: mux.original,
-            scrambled: is_own_scrambled(mux.services.as_slice(), service),
-        }
-    }
-
-    /// Another stream, with its service of this id.
-    pub(crate) fn of_other(other: &Other, service: u16) -> Stream
-        ensures { bearer_of result ≡ of_service (other_bearer other.now) service }
-    {
-        Stream {
-            is_own: false,
-            stream: other.stream,
-            original: other.original,
-            scrambled: is_remote_scrambled(other.services.as_slice(), service),
         }
     }
 
@@ -68,27 +52,6 @@ impl Stream {
     {
         if self.is_own { table } else { table + 0x10 }
     }
-}
-
-// Whether one of these services has this id and is scrambled.
-fn is_own_scrambled(services: &[MuxService], id: u16) -> bool
-    ensures { result ≡ own_scrambled services.now id }
-{
-    services.iter().any(
-        |s: &MuxService| -> bool
-            ensures { result ≡ (s.now.service == id && s.now.scrambled) }
-        { s.service == id && s.scrambled },
-    )
-}
-
-fn is_remote_scrambled(services: &[RemoteService], id: u16) -> bool
-    ensures { result ≡ remote_scrambled services.now id }
-{
-    services.iter().any(
-        |s: &RemoteService| -> bool
-            ensures { result ≡ (s.now.service == id && s.now.scrambled) }
-        { s.service == id && s.scrambled },
-    )
 }
 
 /// What names a table of event information of a service.

@@ -13,7 +13,6 @@ use descriptors::{ServiceKind, ServiceKinds, descriptors_len};
 use guide_model::{Shown, coded_len};
 use mux_model::{Mux, MuxService, Other};
 use section_codec::{Key, NumberedBodies, NumberedBody, SubTable, Tier3};
-use si_base::SharedBytes;
 use std::alloc::{AllocError, Global};
 use std::mem;
 use table_bodies::{Nit, NitStream, NitStreams, stream_len, write_nit};
@@ -145,7 +144,7 @@ fn close(
 {
     let number = closed.len() as u8;
     let nit = network(mux, streams)?;
-    let body = SharedBytes::of(alloc, write_nit(alloc, &nit)?)?;
+    let body = write_nit(alloc, &nit)?;
     closed.push(NumberedBody { number, body })?;
     Ok(())
 }

@@ -66,11 +66,15 @@ fn put_remotes(
     ensures far { OnOk result (far.new ≡ far.old ++ remote_schedules guide.now.guide other.now) }
     ensures small { OnOk result (HaveSmallEntries (remote_guide guide.now.guide other.now)) }
 {
+    let of = Stream {
+        is_own: false,
+        stream: other.stream,
+        original: other.original,
+    };
     for service in other.services.as_slice() {
         let Some(part) = part_in(guide, service.service) else {
             unreachable!()
         };
-        let of = Stream::of_other(other, part.service);
         put_remote(alloc, of, guide.moment(), part, near, far)?;
     }
     Ok(())

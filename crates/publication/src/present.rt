@@ -1,7 +1,6 @@
 // Present and following of a service.
 ghost use Rattle.std.specs.Prelude.{◌≡◌, ◌<◌, map, IfOk};
 ghost use Rattle.std.specs.List.{All};
-ghost use Rattle.table_bodies.specs.Entries.{flags_of};
 ghost use Rattle.table_bodies.specs.Eit.{IsCodable, eit_body};
 ghost use Rattle.eit_segments.specs.Placement.{AreInOrder};
 ghost use Rattle.eit_segments.specs.Laws.{at_of};
@@ -13,10 +12,10 @@ use crate::events::{Stream, eit_head, eit_key};
 use eit_segments::{EventAt, present_following};
 use guide_model::{Event, ServiceGuide};
 use section_codec::{NumberedBodies, NumberedBody, SubTable, tier_of};
-use si_base::SharedBytes;
+use si_base::Bytes;
 use si_time::Moment;
 use std::alloc::{AllocError, Global};
-use table_bodies::{flags_of, write_eit};
+use table_bodies::write_eit;
 
 /// The values of running_status that are used (EN 300 468, 5.2.4).
 const NOT_RUNNING: u8 = 1;
@@ -34,19 +33,12 @@ fn event_at(events: &[Event], place: Option<usize>) -> &[Event]
 }
 
 // The body of a section with this event or none.
-fn body_of(
-    alloc: Global,
-    of: Stream,
-    status: u8,
-    event: &[Event],
-) -> Result<SharedBytes, AllocError>
+fn body_of(alloc: Global, of: Stream, status: u8, event: &[Event]) -> Result<Bytes, AllocError>
     requires status { status < 8 }
     requires events { All IsCodable event.now }
-    ensures { IfOk result (λ body. body ≡ eit_body (eit_head (bearer_of of) 1 (bearer_of of).present) (flags_of status of.scrambled) event.now) }
+    ensures { IfOk result (λ body. body ≡ eit_body (eit_head (bearer_of of) 1 (bearer_of of).present) status event.now) }
 {
-    let flags = flags_of(status, of.scrambled);
-    let body = write_eit(alloc, &eit_head(of, 1, of.present()), flags, event)?;
-    SharedBytes::of(alloc, body)
+    write_eit(alloc, &eit_head(of, 1, of.present()), status, event)
 }
 
 // The sections: 0 with the present event, 1 with the following one.
@@ -60,7 +52,7 @@ fn present_sections(
     requires codable { All IsCodable events.now }
     requires places { at.now ≡ map at_of events.now }
     requires order { AreInOrder at.now }
-    ensures { IfOk result (λ sections. sections ≡ present_sections (bearer_of of) of.scrambled moment.0 events.now) }
+    ensures { IfOk result (λ sections. sections ≡ present_sections (bearer_of of) moment.0 events.now) }
 {
     let (present, following) = present_following(at, moment);
     let mut sections = NumberedBodies::new(alloc);

@@ -11,10 +11,9 @@ use crate::events::{Stream, eit_head, eit_key};
 use eit_segments::{EventAt, Piece, sections_in_table};
 use guide_model::{Event, ServiceGuide};
 use section_codec::{NumberedBodies, NumberedBody, SubTable, SubTables, tier_of};
-use si_base::SharedBytes;
 use si_time::Moment;
 use std::alloc::{AllocError, Global};
-use table_bodies::{flags_of, write_eit};
+use table_bodies::write_eit;
 
 /// running_status of the events of a schedule: undefined (EN 300 468, 5.2.4).
 const UNDEFINED: u8 = 0;
@@ -31,14 +30,12 @@ fn schedule_section(
     piece: &Piece,
 ) -> Result<NumberedBody, AllocError>
     requires { All IsCodable events.now }
-    ensures { IfOk result (λ section. section ≡ schedule_section (bearer_of of) of.scrambled events.now last_table piece.now) }
+    ensures { IfOk result (λ section. section ≡ schedule_section (bearer_of of) events.now last_table piece.now) }
 {
     let head = eit_head(of, piece.segment_last, last_table);
-    let flags = flags_of(UNDEFINED, of.scrambled);
-    let body = write_eit(alloc, &head, flags, piece.events_of(events))?;
     Ok(NumberedBody {
         number: piece.number,
-        body: SharedBytes::of(alloc, body)?,
+        body: write_eit(alloc, &head, UNDEFINED, piece.events_of(events))?,
     })
 }
 
@@ -51,7 +48,7 @@ fn schedule_sections(
     pieces: &[Piece],
 ) -> Result<NumberedBodies, AllocError>
     requires { All IsCodable events.now }
-    ensures { IfOk result (λ sections. sections ≡ map (schedule_section (bearer_of of) of.scrambled events.now last_table) pieces.now) }
+    ensures { IfOk result (λ sections. sections ≡ map (schedule_section (bearer_of of) events.now last_table) pieces.now) }
 {
     let mut sections = NumberedBodies::new(alloc);
     for piece in pieces {

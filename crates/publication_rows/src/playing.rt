@@ -7,7 +7,7 @@ use crate::offsets::offsets;
 use carousel_player::Player;
 use row_lines::{MOST, Row, say};
 use section_codec::{Key, NumberedBody, SubTable, Tables, Tier3};
-use si_base::{Items, SharedBytes};
+use si_base::Items;
 use si_causes::MemSink;
 use si_time::Moment;
 use std::alloc::{AllocError, Global};
@@ -223,7 +223,7 @@ fn sdt(alloc: Global, body: &[u8]) -> Result<Tables, AllocError>
     ensures { IfOk result (λ tables. AreFit tables.list) }
 {
     let mut sections = Vec::new(alloc);
-    let body = SharedBytes::of(alloc, Items::of(Vec::from_slice(alloc, body)?))?;
+    let body = Items::of(Vec::from_slice(alloc, body)?);
     sections.push(NumberedBody { number: 0, body })?;
     let key = Key {
         pid: 0x11,

@@ -4,7 +4,7 @@ ghost use Rattle.section_codec.specs.SubTables.{KeysDiffer};
 
 use row_lines::{MOST, Row, say};
 use section_codec::{Key, NumberedBody, SubTable, Tables, Tier3};
-use si_base::{Items, SharedBytes};
+use si_base::Items;
 use std::alloc::{AllocError, Global};
 use std::fmt::Write;
 use version_book::VersionBook;
@@ -82,7 +82,7 @@ fn airing(alloc: Global, bytes: &[u8]) -> Result<Tables, AllocError>
 fn sub_table(alloc: Global, table: u8, byte: u8) -> Result<SubTable, AllocError>
     ensures { IfOk result (λ sub_table. sub_table.key.table ≡ table) }
 {
-    let body = SharedBytes::of(alloc, Items::of(Vec::from_slice(alloc, &[byte])?))?;
+    let body = Items::of(Vec::from_slice(alloc, &[byte])?);
     let mut sections = Items::new(alloc);
     sections.push(NumberedBody { number: 0, body })?;
     Ok(SubTable {

@@ -52,7 +52,7 @@ fn put_table(out: &mut Buffer, code: u8, report: &str, table: &str) {
 // The first words of the lines of a report, in their order.
 const KINDS: &str =
     "lost junk done wanting clock local network stream cable service program component \
-    now next event other remote scrambled descriptor end";
+    now next event other remote descriptor end";
 
 // Whether this is the first word of a line.
 fn is_first(line: &str, word: &str) -> bool {

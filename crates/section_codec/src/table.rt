@@ -1,5 +1,5 @@
 // Sub-tables and what names them.
-use si_base::{Items, SharedBytes};
+use si_base::{Bytes, Items};
 
 /// What names a sub-table on the wire: its PID, table_id and table_id_extension and, where the table has
 /// them, transport_stream_id and original_network_id (else 0).
@@ -12,11 +12,11 @@ pub struct Key {
     pub network: u16,
 }
 
-/// The section_number and the body of a section. Copies share the memory of the body.
+/// The section_number and the body of a section.
 #[derive(Drop)]
 pub struct NumberedBody {
     pub number: u8,
-    pub body: SharedBytes,
+    pub body: Bytes,
 }
 
 /// The content of a sub-table: its sections in ascending order of their numbers.

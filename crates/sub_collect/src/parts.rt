@@ -13,7 +13,7 @@ use crate::collector::{Collector, KeySlot};
 use crate::needed::known_numbers;
 use crate::run::Run;
 use section_codec::{Key, NumberedBodies, NumberedBody, is_eit};
-use si_base::{Items, SharedBytes};
+use si_base::Items;
 use std::alloc::{AllocError, Global};
 
 /// What is held of a key: the content of its latest completion, which stays in the collector, or
@@ -99,8 +99,7 @@ impl Run {
         for i in 0..numbers.len() {
             let number = numbers[i];
             if let Some(held) = self.held.get(&number) {
-                let bytes = Items::of(Vec::from_slice(alloc, held.as_slice())?);
-                let body = SharedBytes::of(alloc, bytes)?;
+                let body = Items::of(Vec::from_slice(alloc, held.as_slice())?);
                 sections.push(NumberedBody { number, body })?;
             }
         }

@@ -11,7 +11,7 @@ ghost use Rattle.sub_collect.specs.Slots.{kept_run, held_with, told_with, needed
 use crate::completed::Completed;
 use crate::needed::needed_numbers;
 use section_codec::{Key, LongHeader, NumberedBodies, NumberedBody, is_eit, segment_last};
-use si_base::{Bytes, Items, SharedBytes};
+use si_base::{Bytes, Items};
 use std::alloc::{AllocError, Global};
 use std::collections::BTreeMap;
 
@@ -184,8 +184,7 @@ impl Run {
             let Some(held) = self.body_with(number, put, body) else {
                 return Ok(None);
             };
-            let bytes = Items::of(Vec::from_slice(alloc, held)?);
-            let body = SharedBytes::of(alloc, bytes)?;
+            let body = Items::of(Vec::from_slice(alloc, held)?);
             sections.push(NumberedBody { number, body })?;
         }
         Ok(Some(Items::of(sections)))

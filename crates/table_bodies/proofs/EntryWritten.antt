@@ -5,7 +5,7 @@ use Rattle.std.specs.Prelude.{nat_le, is_some, option_map}
 use Rattle.std.specs.List.{flat_map, AllByRecursion}
 use Rattle.std.proofs.lemmas.Bool.{cond-true}
 use Rattle.std.proofs.lemmas.List.{append-nil, take_at, drop_at, get_or_at}
-use Rattle.si_base.specs.Fields.{two, two_at}
+use Rattle.si_base.specs.Fields.{two}
 use Rattle.guide_model.specs.declared.descriptor.RawDesc.{RawDesc}
 use Rattle.descriptors.specs.Descriptors.{descriptor_bytes, AreDescriptors}
 use Rattle.table_bodies.specs.Entries.{TableEntry, entry_bytes, FitsEntry, desc_of, descriptors_in, EntryParts, loop_length, entry_length, split_in, Reads, value_in, with_more, entries_in}
@@ -47,11 +47,11 @@ read_is bytes small (Ok None) some none = go (descriptors_in bytes) refl
 -- ---- one entry
 
 abbrev pub parts_of : TableEntry → EntryParts
-parts_of e = record { fields = e.fields; bits = e.bits; descriptors = e.descriptors }
+parts_of e = record { fields = e.fields; descriptors = e.descriptors }
 
-cut : (size told bits : ℕ) (fields ds rest bytes : List ℕ) → length fields ≡ size → told < 65536 → told / 4096 ≡ bits → told % 4096 ≡ length ds
-    → bytes ≡ fields ++ two told ++ ds ++ rest → split_in size bytes ≡ Some (record { fields = fields; bits = bits; descriptors = ds }, rest)
-cut size told bits fields ds rest bytes its small front tells whole =
+cut : (size told : ℕ) (fields ds rest bytes : List ℕ) → length fields ≡ size → told < 65536 → told % 4096 ≡ length ds
+    → bytes ≡ fields ++ two told ++ ds ++ rest → split_in size bytes ≡ Some (record { fields = fields; descriptors = ds }, rest)
+cut size told fields ds rest bytes its small tells whole =
     let high = told / 256 % 256 in
     let low = told % 256 in
     let start : bytes ≡ fields ++ (high ∷ low ∷ (ds ++ rest)) = whole ∙ append_assoc (fields ++ two told) ds rest ∙ append_assoc fields (two told) (ds ++ rest) in
@@ -61,7 +61,6 @@ cut size told bits fields ds rest bytes its small front tells whole =
     ap (λ (l : List ℕ). get_or l (size + 1) 0) next
     ∙ get_or_at (fields ++ high ∷ []) low (ds ++ rest) 0 (size + 1) (omega (arith, its, length-append fields (high ∷ []))) in
     let loop : loop_length size bytes ≡ length ds = omega (arith, high_at, low_at, tells, small) in
-    let bits_are : two_at size bytes / 4096 ≡ bits = omega (arith, high_at, low_at, front, small) in
     let all : length bytes ≡ size + 2 + length ds + length rest =
     omega (arith, its, ap length start, length-append fields (high ∷ low ∷ (ds ++ rest)), length-append ds rest) in
     let enough : nat_le (entry_length size bytes) (length bytes) ≡ true = le-leb (entry_length size bytes) (length bytes) (omega (arith, all, loop)) in
@@ -75,13 +74,13 @@ cut size told bits fields ds rest bytes its small front tells whole =
     ap (λ (n : ℕ). drop (size + 2 + n) bytes) loop ∙ ap (λ (l : List ℕ). drop (size + 2 + length ds) l) whole
     ∙ drop_at (fields ++ two told ++ ds) rest (size + 2 + length ds) (omega (arith, its, length-append (fields ++ two told) ds, length-append fields (two told))) in
     cond-true (nat_le (entry_length size bytes) (length bytes)) _ None enough
-    ∙ (λ i. Some (record { fields = fields_are i; bits = bits_are i; descriptors = loop_is i }, behind i))
+    ∙ (λ i. Some (record { fields = fields_are i; descriptors = loop_is i }, behind i))
 
 -- an entry that was written is cut off, whatever follows it
 pub split_back : (size : ℕ) (e : TableEntry) (rest : List ℕ) → FitsEntry size e → split_in size (entry_bytes e ++ rest) ≡ Some (parts_of e, rest)
 split_back size e rest fits =
-    cut size (4096 * e.bits + length e.descriptors) e.bits e.fields e.descriptors rest (entry_bytes e ++ rest) fits.fields
-    (omega (arith, fits.bits, fits.descriptors)) (omega (arith, fits.descriptors)) (omega (arith, fits.descriptors)) refl
+    cut size (4096 * e.bits + length e.descriptors) e.fields e.descriptors rest (entry_bytes e ++ rest) fits.fields
+    (omega (arith, fits.bits, fits.descriptors)) (omega (arith, fits.descriptors)) refl
 
 -- an entry has bytes
 pub entry_some : (e : TableEntry) (rest : List ℕ) → 0 < length (entry_bytes e ++ rest)

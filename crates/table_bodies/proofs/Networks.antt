@@ -99,8 +99,8 @@ stream_descs_back (Some c) ks ds = descs_back (cable_desc c ∷ list_desc ks ∷
 
 -- what is read of a stream, by its descriptors
 read_by : (s : NitStream)
-    → value_in stream_in (parts_of (stream_entry s)) ≡ stream_in (stream_entry s).bits (stream_entry s).fields (stream_descs s.cable s.services s.descriptors)
-read_by s = ap (option_and_then (stream_in (stream_entry s).bits (stream_entry s).fields)) (stream_descs_back s.cable s.services s.descriptors)
+    → value_in stream_in (parts_of (stream_entry s)) ≡ stream_in (stream_entry s).fields (stream_descs s.cable s.services s.descriptors)
+read_by s = ap (option_and_then (stream_in (stream_entry s).fields)) (stream_descs_back s.cable s.services s.descriptors)
 
 -- the list of services is the first one, and nothing else is left of it
 list_first : (ks : List ServiceKind) (ds : List RawDesc) → AllByRecursion (λ k. k.service < 65536) ks → services_of (list_desc ks ∷ ds) ≡ ks
@@ -113,7 +113,7 @@ list_shown ks ds words = without_front 0x41 service_list_in always (list_desc ks
 
 stream_back : CableReadsBack → (s o : ℕ) (c : Option Cable) (ks : List ServiceKind) (ds : List RawDesc) → s < 65536 → o < 65536
     → IfSome c FitsCable → AllByRecursion (λ k. k.service < 65536) ks → AllByRecursion (λ (d : RawDesc). (d.tag == 0x44) ≡ false) ds
-    → stream_in 15 (two s ++ two o) (stream_descs c ks ds)
+    → stream_in (two s ++ two o) (stream_descs c ks ds)
     ≡ Some (record { stream = s; original = o; cable = c; services = ks; descriptors = ds })
 stream_back back s o None ks ds ls lo digits words none =
     let kept : without_first 0x44 cable_in always ds ≡ ds = none_without 0x44 cable_in always ds none in
@@ -160,20 +160,20 @@ loop_back bits loop width within =
 -- a written body is read by its descriptors and its streams
 nit_by : (n : Nit) → HasNetworkRoom n → sum_by stream_size n.streams < 4096
     → nit_in (nit_body n)
-    ≡ made nit_with (network_in 15 [] (name_desc n.name ∷ n.descriptors)) (entries_in 4 stream_in (flat_map stream_bytes n.streams))
+    ≡ made nit_with (network_in [] (name_desc n.name ∷ n.descriptors)) (entries_in 4 stream_in (flat_map stream_bytes n.streams))
 nit_by n room within =
     let streams = flat_map stream_bytes n.streams in
     ap (option_and_then (λ (parts : EntryParts × List ℕ). made nit_with (value_in network_in parts.0) (option_and_then (entries_in 4 stream_in) (loop_in parts.1))))
     (split_back 0 (network_entry n) (entry_bytes (bare_entry streams))
     (record { fields = refl; bits = omega arith; descriptors = omega (arith, room, length-network n.name n.descriptors) }))
-    ∙ ap₂ (λ (descs : Option (List RawDesc)) (loop : Option (List ℕ)). made nit_with (option_and_then (network_in 15 []) descs) (option_and_then (entries_in 4 stream_in) loop))
+    ∙ ap₂ (λ (descs : Option (List RawDesc)) (loop : Option (List ℕ)). made nit_with (option_and_then (network_in []) descs) (option_and_then (entries_in 4 stream_in) loop))
     (descs_back (name_desc n.name ∷ n.descriptors))
     (loop_back 15 streams (omega arith) (omega (arith, within, length-streams n.streams)))
 
 pub nit-reads_back : CableReadsBack → NitReadsBack
 nit-reads_back back n fits =
     nit_by n fits.room fits.within
-    ∙ ap (made nit_with (network_in 15 [] (name_desc n.name ∷ n.descriptors)))
+    ∙ ap (made nit_with (network_in [] (name_desc n.name ∷ n.descriptors)))
     (entries_back 4 stream_in stream_entry (λ s. s) n.streams (all_map HasStreamWidths IsBack (each_back back) n.streams fits.streams)
     ∙ ap (λ (ss : List NitStream). Some ss) (map-id n.streams))
     ∙ (λ i. Some (record { name = fits.shown i; descriptors = n.descriptors; streams = n.streams }))
@@ -181,5 +181,5 @@ nit-reads_back back n fits =
 pub written_nits : WrittenNitsAreRead
 written_nits n can =
     ap is_some (nit_by n can.room can.within)
-    ∙ made_test nit_with (network_in 15 [] (name_desc n.name ∷ n.descriptors)) (entries_in 4 stream_in (flat_map stream_bytes n.streams))
+    ∙ made_test nit_with (network_in [] (name_desc n.name ∷ n.descriptors)) (entries_in 4 stream_in (flat_map stream_bytes n.streams))
     ∙ entries_read 4 stream_in stream_entry n.streams (all_map FitsStream IsRead each_read n.streams (recursion_from_All FitsStream n.streams can.streams))

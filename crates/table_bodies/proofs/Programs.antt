@@ -80,11 +80,11 @@ component_descs_back (Some l) ds = descs_back (language_desc l ∷ ds)
 
 -- what is read of a component, by its descriptors
 read_by : (c : Component)
-    → value_in component_in (parts_of (component_entry c)) ≡ component_in (component_entry c).bits (component_entry c).fields (component_descs c.language c.descriptors)
-read_by c = ap (option_and_then (component_in (component_entry c).bits (component_entry c).fields)) (component_descs_back c.language c.descriptors)
+    → value_in component_in (parts_of (component_entry c)) ≡ component_in (component_entry c).fields (component_descs c.language c.descriptors)
+read_by c = ap (option_and_then (component_in (component_entry c).fields)) (component_descs_back c.language c.descriptors)
 
 component_back : (s p : ℕ) (l : Option (List ℕ)) (ds : List RawDesc) → p < 8192 → IfSome l (λ language. length language ≡ 3)
-    → component_in 15 (s ∷ two (0xE000 + p)) (component_descs l ds)
+    → component_in (s ∷ two (0xE000 + p)) (component_descs l ds)
     ≡ Some (shown_component (record { stream_type = s; pid = p; language = l; descriptors = ds }))
 component_back s p None ds lt three = ap (λ x. Some x) (same_component s _ p _ _ _ _ (pid_back p lt) refl refl)
 component_back s p (Some l) ds lt three =
@@ -128,6 +128,6 @@ pmt-reads_back p fits =
     let read : Option (List ScreenComponent) = entries_in 3 component_in loop in
     ap (option_and_then (λ (parts : EntryParts × List ℕ). made pmt_with (value_in program_in parts.0) (entries_in 3 component_in parts.1)))
     (split_back 2 program loop (record { fields = refl; bits = omega arith; descriptors = room }))
-    ∙ ap (λ (descs : Option (List RawDesc)). made pmt_with (option_and_then (program_in program.bits program.fields) descs) read) (descs_back p.descriptors)
+    ∙ ap (λ (descs : Option (List RawDesc)). made pmt_with (option_and_then (program_in program.fields) descs) read) (descs_back p.descriptors)
     ∙ ap (option_map (pmt_with _)) (entries_back 3 component_in component_entry shown_component p.components each)
     ∙ ap (λ (pid : ℕ). Some (pmt_with (pid, p.descriptors) (map shown_component p.components))) (pid_back p.pcr_pid fits.pcr_pid)

@@ -30,14 +30,14 @@ use Rattle.table_bodies.specs.Eit.{written_entry, eit_body, IsCodable, IsTyped, 
 use Rattle.table_bodies.proofs.EventWritten.{descs_of, desc-bytes, event-shown}
 
 pub entry-has_its_size : EntryHasItsSize
-entry-has_its_size flags e =
-    let told = two (4096 * flags + length (event_descriptors e)) in
+entry-has_its_size status e =
+    let flags = two (4096 * (2 * status) + length (event_descriptors e)) in
     omega (
       arith,
       length-moment_bcd e.start.0,
       length-duration_bcd e.seconds,
-      length-append (two e.id ++ moment_bcd e.start.0 ++ duration_bcd e.seconds ++ told) (event_descriptors e),
-      length-append (two e.id ++ moment_bcd e.start.0 ++ duration_bcd e.seconds) told,
+      length-append (two e.id ++ moment_bcd e.start.0 ++ duration_bcd e.seconds ++ flags) (event_descriptors e),
+      length-append (two e.id ++ moment_bcd e.start.0 ++ duration_bcd e.seconds) flags,
       length-append (two e.id ++ moment_bcd e.start.0) (duration_bcd e.seconds),
       length-append (two e.id) (moment_bcd e.start.0),
     )
@@ -92,10 +92,10 @@ duration_back id time duration five three =
     ap₂ (λ (xs ys : List ℕ). duration_of (two id ++ xs ++ ys)) t.5 d.3 ∙ sym d.3
 
 abbrev IsBack : ℕ → Event → Type 0
-IsBack flags e = FitsEntry 10 (written_entry flags e) × (value_in event_in (parts_of (written_entry flags e)) ≡ Some (shown_event e))
+IsBack status e = FitsEntry 10 (written_entry status e) × (value_in event_in (parts_of (written_entry status e)) ≡ Some (shown_event e))
 
-event_back : (flags : ℕ) (e : Event) → flags < 16 → IsCodable e → IsTyped e → IsBack flags e
-event_back flags e lt p q =
+event_back : (status : ℕ) (e : Event) → status < 8 → IsCodable e → IsTyped e → IsBack status e
+event_back status e lt p q =
     let start = moment_bcd e.start.0 in
     let long = duration_bcd e.seconds in
     let five = length-moment_bcd e.start.0 in
@@ -104,10 +104,10 @@ event_back flags e lt p q =
     let id : 256 * (e.id / 256 % 256) + e.id % 256 ≡ e.id = omega (arith, q.id) in (
       record {
         fields = omega (arith, length-append (two e.id ++ start) long, length-append (two e.id) start, five, three);
-        bits = lt;
+        bits = omega (arith, lt);
         descriptors = descriptors-small e p q;
       },
-      ap (option_and_then (event_in flags fields)) (ap descriptors_in (desc-bytes e) ∙ descs_back (descs_of e))
+      ap (option_and_then (event_in fields)) (ap descriptors_in (desc-bytes e) ∙ descs_back (descs_of e))
           ∙ ap₂ (λ (at for : Option ℕ). made (λ (start seconds : ℕ). event_of (two_at 0 fields) start seconds (descs_of e)) at for)
           (ap moment_from_bcd (time_back e.id start long five) ∙ moment_from_bcd-moment_bcd e.start.0 p.start)
           (ap duration_from_bcd (duration_back e.id start long five three) ∙ duration_from_bcd-duration_bcd e.seconds p.seconds)
@@ -121,10 +121,10 @@ same_head : (a : EitHead) (stream original : ℕ) → stream ≡ a.stream → or
 same_head a stream original s o = λ i. record { stream = s i; original = o i; segment_last = a.segment_last; last_table = a.last_table }
 
 pub eit-reads_back : EitReadsBack
-eit-reads_back head flags events fits lt p q =
-    let body = eit_body head flags events in
+eit-reads_back head status events fits lt p q =
+    let body = eit_body head status events in
     cond-true (nat_le 6 (length body)) _ None (le-leb 6 (length body) (omega arith))
     ∙ ap₂ (λ (h : EitHead) (read : Option (List ScreenEvent)). option_map (eit_with h) read)
     (same_head head _ _ (omega (arith, fits.stream)) (omega (arith, fits.original)))
-    (entries_back 10 event_in (written_entry flags) shown_event events
-    (all_two IsCodable IsTyped (IsBack flags) (λ e. event_back flags e lt) events (recursion_from_All IsCodable events p) (recursion_from_All IsTyped events q)))
+    (entries_back 10 event_in (written_entry status) shown_event events
+    (all_two IsCodable IsTyped (IsBack status) (λ e. event_back status e lt) events (recursion_from_All IsCodable events p) (recursion_from_All IsTyped events q)))

@@ -1,5 +1,5 @@
 -- Written services read back.
-use Rattle.std.proofs.Common.{◌≡◌, ◌∙◌, ℕ, ◌+◌, ◌*◌, ◌/◌, ◌%◌, ◌<◌, ◌≤◌, Bool, true, false, List, [], ◌∷◌, ◌++◌, length, drop, Option, Some, None, refl, sym, ap, ap₂, arith, le-leb, length-append}
+use Rattle.std.proofs.Common.{◌≡◌, ◌∙◌, ℕ, ◌+◌, ◌*◌, ◌/◌, ◌%◌, ◌≤◌, Bool, true, false, List, [], ◌∷◌, ◌++◌, length, drop, Option, Some, None, refl, sym, ap, ap₂, arith, le-leb, length-append}
 use Rattle.std.specs.Prelude.{◌==◌, nat_le, is_some, option_map, option_and_then}
 use Rattle.std.specs.Option.{unwrap_or}
 use Rattle.std.specs.List.{flat_map}
@@ -18,14 +18,14 @@ use Rattle.descriptors.specs.declared.service.ServiceText.{ServiceText}
 use Rattle.descriptors.specs.Descriptors.{descriptors_bytes}
 use Rattle.descriptors.specs.Service.{service_body, service_descriptor, service_in, ServiceReadsBack}
 use Rattle.descriptors.proofs.Loops.{length-descriptors_bytes}
-use Rattle.table_bodies.specs.Entries.{FitsEntry, flag_bit, flags_of, value_in, entries_in}
+use Rattle.table_bodies.specs.Entries.{FitsEntry, value_in, entries_in}
 use Rattle.descriptors.specs.First.{always}
 use Rattle.table_bodies.proofs.FirstOnes.{first_front, without_front}
 use Rattle.table_bodies.proofs.EntryWritten.{descs_back, parts_of, entries_back, entries_read}
 use Rattle.table_bodies.proofs.Words.{word_back}
 use Rattle.table_bodies.specs.declared.sdt.SdtService.{SdtService}
 use Rattle.table_bodies.specs.declared.sdt.Sdt.{Sdt}
-use Rattle.table_bodies.specs.Sdt.{text_of, service_entry, service_bytes, service_with, sdt_service_in, sdt_with, sdt_in, sdt_body, FitsService, HasServiceWidths, ServiceHasItsSize, SdtHasItsSize}
+use Rattle.table_bodies.specs.Sdt.{flag_bit, text_of, service_entry, service_bytes, service_with, sdt_service_in, sdt_with, sdt_in, sdt_body, FitsService, HasServiceWidths, ServiceHasItsSize, SdtHasItsSize}
 use Rattle.table_bodies.specs.Sdt.{SdtReadsBack, WrittenSdtsAreRead}
 
 -- ---- sizes
@@ -59,15 +59,11 @@ present_back true false = refl
 present_back false true = refl
 present_back false false = refl
 
-scrambled_back : (scrambled : Bool) → (flags_of 4 scrambled % 2 == 1) ≡ scrambled
-scrambled_back true = refl
-scrambled_back false = refl
-
-same_service : (n m : ℕ) (a b c d p q : Bool) (t : ServiceText) (ds : List RawDesc) → n ≡ m → a ≡ b → c ≡ d → p ≡ q
-    → (let x : SdtService = record { service = n; schedule = a; present = c; scrambled = p; kind = t.kind; provider = t.provider; name = t.name; descriptors = ds } in
-    let y : SdtService = record { service = m; schedule = b; present = d; scrambled = q; kind = t.kind; provider = t.provider; name = t.name; descriptors = ds } in x ≡ y)
-same_service n m a b c d p q t ds e f g h =
-    λ i. record { service = e i; schedule = f i; present = g i; scrambled = h i; kind = t.kind; provider = t.provider; name = t.name; descriptors = ds }
+same_service : (n m : ℕ) (a b c d : Bool) (t : ServiceText) (ds : List RawDesc) → n ≡ m → a ≡ b → c ≡ d
+    → (let x : SdtService = record { service = n; schedule = a; present = c; kind = t.kind; provider = t.provider; name = t.name; descriptors = ds } in
+    let y : SdtService = record { service = m; schedule = b; present = d; kind = t.kind; provider = t.provider; name = t.name; descriptors = ds } in x ≡ y)
+same_service n m a b c d t ds e f g =
+    λ i. record { service = e i; schedule = f i; present = g i; kind = t.kind; provider = t.provider; name = t.name; descriptors = ds }
 
 abbrev no_text : ServiceText
 no_text = record { kind = 0; provider = Text []; name = Text [] }
@@ -77,17 +73,13 @@ text_desc s = record { tag = 0x48; body = service_body (text_of s) }
 
 -- what is read of a service, by its descriptors
 read_by : (s : SdtService)
-    → value_in sdt_service_in (parts_of (service_entry s)) ≡ sdt_service_in (service_entry s).bits (service_entry s).fields (text_desc s ∷ s.descriptors)
-read_by s = ap (option_and_then (sdt_service_in (service_entry s).bits (service_entry s).fields)) (descs_back (text_desc s ∷ s.descriptors))
-
-pub flags_small : (status : ℕ) (scrambled : Bool) → status < 8 → flags_of status scrambled < 16
-flags_small status true lt = omega (arith, lt)
-flags_small status false lt = omega (arith, lt)
+    → value_in sdt_service_in (parts_of (service_entry s)) ≡ sdt_service_in (service_entry s).fields (text_desc s ∷ s.descriptors)
+read_by s = ap (option_and_then (sdt_service_in (service_entry s).fields)) (descs_back (text_desc s ∷ s.descriptors))
 
 service_fits : (s : SdtService) → FitsService s → FitsEntry 3 (service_entry s)
 service_fits s fits = record {
   fields = refl;
-  bits = flags_small 4 s.scrambled (omega arith);
+  bits = omega arith;
   descriptors = omega (arith, fits.texts, fits.room, length-service_descriptors s);
 }
 
@@ -99,11 +91,11 @@ each_back back s has = (
   service_fits s has.fits,
   let said = back (text_of s) has.shown in
       read_by s
-      ∙ ap₂ (λ (text : ServiceText) (further : List RawDesc). Some (service_with (service_entry s).bits (service_entry s).fields text further))
+      ∙ ap₂ (λ (text : ServiceText) (further : List RawDesc). Some (service_with (service_entry s).fields text further))
       (ap (λ read. unwrap_or read no_text) (first_front 0x48 service_in (text_desc s) s.descriptors (text_of s) said))
       (without_front 0x48 service_in always (text_desc s) s.descriptors (text_of s) said refl)
-      ∙ ap (λ x. Some x) (same_service _ s.service _ s.schedule _ s.present _ s.scrambled (text_of s) s.descriptors (word_back s.service has.service)
-      (schedule_back s.schedule s.present) (present_back s.schedule s.present) (scrambled_back s.scrambled)),
+      ∙ ap (λ x. Some x) (same_service _ s.service _ s.schedule _ s.present (text_of s) s.descriptors (word_back s.service has.service)
+      (schedule_back s.schedule s.present) (present_back s.schedule s.present)),
 )
 
 abbrev IsRead : SdtService → Type 0

@@ -80,7 +80,7 @@ value_from : {X : Type 0} (value_of : Reads X) (e : TableEntry) (x : X) → AreB
     → IsReadAs value_of e x
 value_from value_of e x all is = go (descriptors_in e.descriptors) refl is
   where
-    go : (o : Option (List RawDesc)) → descriptors_in e.descriptors ≡ o → option_and_then (value_of e.bits e.fields) o ≡ Some x → IsReadAs value_of e x
+    go : (o : Option (List RawDesc)) → descriptors_in e.descriptors ≡ o → option_and_then (value_of e.fields) o ≡ Some x → IsReadAs value_of e x
     go None at h = cc
     go (Some descs) at h = record {
       descs = descs;
@@ -133,7 +133,7 @@ entries_to size value_of (e ∷ es) (v ∷ values) fits read =
     let rest = flat_map entry_bytes es in
     next_entry size value_of (entry_bytes e ++ rest) (entry_some e rest)
     ∙ ap (and_more size value_of) (split_back size e rest fits.0)
-    ∙ ap₂ with_more (ap (option_and_then (value_of e.bits e.fields)) (ap descriptors_in read.0.loop.whole ∙ descs_back read.0.descs) ∙ read.0.says)
+    ∙ ap₂ with_more (ap (option_and_then (value_of e.fields)) (ap descriptors_in read.0.loop.whole ∙ descs_back read.0.descs) ∙ read.0.says)
     (entries_to size value_of es values fits.1 read.1)
 
 pub entries_are_read : {X : Type 0} (size : ℕ) (value_of : Reads X) → EntriesAreRead size value_of

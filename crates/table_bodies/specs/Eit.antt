@@ -24,19 +24,19 @@ use Rattle.table_bodies.specs.ShownEvent.{event_of, rating_of}
 abbrev pub head_bytes : EitHead → List ℕ
 head_bytes h = two h.stream ++ two h.original ++ h.segment_last ∷ h.last_table ∷ []
 
--- the entry of an event: event_id 16, start_time 40, duration 24; its flags, which are running_status 3 and free_CA_mode 1
+-- the entry of an event with this running_status: event_id 16, start_time 40, duration 24; running_status 3, and free_CA_mode 1, which is 0
 abbrev pub written_entry : ℕ → Event → TableEntry
-written_entry flags e = record {
+written_entry status e = record {
   fields = two e.id ++ moment_bcd e.start.0 ++ duration_bcd e.seconds;
-  bits = flags;
+  bits = 2 * status;
   descriptors = event_descriptors e;
 }
 
 abbrev pub written_bytes : ℕ → Event → List ℕ
-written_bytes flags e = entry_bytes (written_entry flags e)
+written_bytes status e = entry_bytes (written_entry status e)
 
 abbrev pub eit_body : EitHead → ℕ → List Event → List ℕ
-eit_body head flags events = head_bytes head ++ flat_map (written_bytes flags) events
+eit_body head status events = head_bytes head ++ flat_map (written_bytes status) events
 
 -- an event whose entry can be written
 pub record IsCodable (e : Event) : Type 0 where
@@ -55,7 +55,7 @@ duration_of fields = slice_index fields 7 ∷ slice_index fields 8 ∷ slice_ind
 
 -- the event that an entry shows, whatever running_status and free_CA_mode; none where its start or its duration is no time
 abbrev pub event_in : Reads ScreenEvent
-event_in bits fields descs =
+event_in fields descs =
     made (λ start seconds. event_of (two_at 0 fields) start seconds descs) (moment_from_bcd (time_of fields)) (duration_from_bcd (duration_of fields))
 
 abbrev pub head_of : List ℕ → EitHead
@@ -76,7 +76,7 @@ is_eit_body body = is_some (eit_in body)
 
 -- An entry has the size that is known before it is written.
 abbrev pub EntryHasItsSize : Type 0
-EntryHasItsSize = (flags : ℕ) (event : Event) → length (written_bytes flags event) ≡ entry_size event
+EntryHasItsSize = (status : ℕ) (event : Event) → length (written_bytes status event) ≡ entry_size event
 
 -- what a receiver shows of an event: all its texts as text, and its further descriptors; a rating among them is that of the event,
 -- and stands no longer among them where it is of one country
@@ -110,6 +110,6 @@ pub record FitsHead (h : EitHead) : Type 0 where
 
 -- Reading a written body gives back its head and its events.
 abbrev pub EitReadsBack : Type 0
-EitReadsBack = (head : EitHead) (flags : ℕ) (events : List Event)
-    → FitsHead head → flags < 16 → All IsCodable events → All IsTyped events
-    → eit_in (eit_body head flags events) ≡ Some (record { head = head; events = map shown_event events })
+EitReadsBack = (head : EitHead) (status : ℕ) (events : List Event)
+    → FitsHead head → status < 8 → All IsCodable events → All IsTyped events
+    → eit_in (eit_body head status events) ≡ Some (record { head = head; events = map shown_event events })

@@ -1,5 +1,5 @@
 -- Entries of tables, one after the other, both ways (ISO/IEC 13818-1, 2.4.4.8; EN 300 468, 5.2.1, 5.2.3 and 5.2.4).
-use Rattle.std.specs.Prelude.{◌≡◌, ℕ, zero, suc, ◌+◌, ◌*◌, ◌/◌, ◌%◌, ◌<◌, Bool, List, [], ◌∷◌, ◌++◌, length, take, drop, nat_le, if◌then◌else◌}
+use Rattle.std.specs.Prelude.{◌≡◌, ℕ, zero, suc, ◌+◌, ◌*◌, ◌%◌, ◌<◌, List, [], ◌∷◌, ◌++◌, length, take, drop, nat_le, if◌then◌else◌}
 use Rattle.std.specs.Prelude.{Option, Some, None, option_map, option_and_then}
 use Rattle.si_base.specs.Fields.{two, two_at}
 use Rattle.guide_model.specs.declared.descriptor.RawDesc.{RawDesc}
@@ -22,14 +22,6 @@ pub record FitsEntry (size : ℕ) (e : TableEntry) : Type 0 where
   pub bits : e.bits < 16
   pub descriptors : length e.descriptors < 4096
 
--- the bit of a flag
-abbrev pub flag_bit : Bool → ℕ
-flag_bit flag = if flag then 1 else 0
-
--- the four bits of a service and of an event: running_status 3, and free_CA_mode 1, which is 1 where the service is scrambled
-abbrev pub flags_of : ℕ → Bool → ℕ
-flags_of status scrambled = 2 * status + flag_bit scrambled
-
 -- ---- descriptors that are read
 
 -- a descriptor by its tag and the bytes after its length
@@ -51,10 +43,9 @@ descriptors_in bytes = descriptors_within (length bytes) bytes
 
 -- ---- entries that are read
 
--- an entry that is cut off and not read yet: its fields, the four bits before its length, and the bytes of its descriptors
+-- an entry that is cut off and not read yet: its fields, and the bytes of its descriptors
 pub record EntryParts : Type 0 where
   pub fields : List ℕ
-  pub bits : ℕ
   pub descriptors : List ℕ
 
 -- the length of the descriptors of the entry at the front, whose fields have `size` bytes, and the length of the entry
@@ -64,25 +55,21 @@ loop_length size bytes = two_at size bytes % 4096
 abbrev pub entry_length : ℕ → List ℕ → ℕ
 entry_length size bytes = size + 2 + loop_length size bytes
 
--- The entry at the front, and what follows it; there is none where bytes end within it.
+-- The entry at the front, whatever the four bits before its length, and what follows it; there is none where bytes end within it.
 abbrev pub parts_at : ℕ → List ℕ → EntryParts
-parts_at size bytes = record {
-  fields = take size bytes;
-  bits = two_at size bytes / 4096;
-  descriptors = take (loop_length size bytes) (drop (size + 2) bytes);
-}
+parts_at size bytes = record { fields = take size bytes; descriptors = take (loop_length size bytes) (drop (size + 2) bytes) }
 
 abbrev pub split_in : ℕ → List ℕ → Option (EntryParts × List ℕ)
 split_in size bytes =
     if nat_le (entry_length size bytes) (length bytes) then Some (parts_at size bytes, drop (entry_length size bytes) bytes) else None
 
--- how the four bits, the fields and the descriptors of an entry are read; it may be refused
+-- how the fields and the descriptors of an entry are read; it may be refused
 abbrev pub Reads : Type 0 → Type 0
-Reads X = ℕ → List ℕ → List RawDesc → Option X
+Reads X = List ℕ → List RawDesc → Option X
 
 -- what an entry is read as; it has no value where its descriptors are no list, or where it is refused
 abbrev pub value_in : {X : Type 0} → Reads X → EntryParts → Option X
-value_in value_of entry = option_and_then (value_of entry.bits entry.fields) (descriptors_in entry.descriptors)
+value_in value_of entry = option_and_then (value_of entry.fields) (descriptors_in entry.descriptors)
 
 -- a value made of two, where both are there
 abbrev pub made : {X Y Z : Type 0} → (X → Y → Z) → Option X → Option Y → Option Z

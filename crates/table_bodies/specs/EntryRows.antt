@@ -3,15 +3,15 @@ use Rattle.std.specs.Prelude.{◌≡◌, ℕ, List, [], ◌∷◌, Option, Some,
 use Rattle.guide_model.specs.declared.descriptor.RawDesc.{RawDesc}
 use Rattle.table_bodies.specs.Entries.{entries_in, split_in, descriptors_in}
 
-abbrev fields_in : ℕ → List ℕ → List RawDesc → Option (List ℕ)
-fields_in bits fields descs = Some fields
+abbrev fields_in : List ℕ → List RawDesc → Option (List ℕ)
+fields_in fields descs = Some fields
 
 -- ---- one byte of fields, bits that are all 1, and a descriptor without a body
 
 row_entry : entries_in 1 fields_in (0x07 ∷ 0xF0 ∷ 0x02 ∷ 0x7F ∷ 0x00 ∷ []) ≡ Some ((0x07 ∷ []) ∷ [])
 row_entry = refl
 
--- they may have any value
+-- reserved bits may have any value
 row_bits : entries_in 1 fields_in (0x07 ∷ 0x50 ∷ 0x02 ∷ 0x7F ∷ 0x00 ∷ []) ≡ Some ((0x07 ∷ []) ∷ [])
 row_bits = refl
 
@@ -29,15 +29,8 @@ row_past = refl
 row_more : entries_in 1 fields_in (0x07 ∷ 0xF0 ∷ 0x00 ∷ 0x07 ∷ []) ≡ None
 row_more = refl
 
-row_behind : split_in 1 (0x07 ∷ 0xF0 ∷ 0x02 ∷ 0x7F ∷ 0x00 ∷ 0x09 ∷ []) ≡ Some (record { fields = 0x07 ∷ []; bits = 0xF; descriptors = 0x7F ∷ 0x00 ∷ [] }, 0x09 ∷ [])
+row_behind : split_in 1 (0x07 ∷ 0xF0 ∷ 0x02 ∷ 0x7F ∷ 0x00 ∷ 0x09 ∷ []) ≡ Some (record { fields = 0x07 ∷ []; descriptors = 0x7F ∷ 0x00 ∷ [] }, 0x09 ∷ [])
 row_behind = refl
-
--- the four bits before a length of 0
-abbrev bits_in : ℕ → List ℕ → List RawDesc → Option ℕ
-bits_in bits fields descs = Some bits
-
-row_read_bits : entries_in 1 bits_in (0x07 ∷ 0x90 ∷ 0x00 ∷ 0x07 ∷ 0x00 ∷ 0x00 ∷ []) ≡ Some (9 ∷ 0 ∷ [])
-row_read_bits = refl
 
 row_descriptors : descriptors_in (0x54 ∷ 0x01 ∷ 0x20 ∷ 0x7F ∷ 0x00 ∷ []) ≡ Some (record { tag = 0x54; body = 0x20 ∷ [] } ∷ record { tag = 0x7F; body = [] } ∷ [])
 row_descriptors = refl

@@ -1,5 +1,5 @@
 -- Worked bodies.
-use Rattle.std.specs.Prelude.{◌≡◌, true, false, [], ◌∷◌, ◌++◌, length, Some, None, refl, codes, List, ℕ}
+use Rattle.std.specs.Prelude.{◌≡◌, [], ◌∷◌, ◌++◌, length, Some, None, refl, codes, List, ℕ}
 use Rattle.std.specs.Str.{chars, is_utf8}
 use Rattle.guide_model.specs.Cutting.{pieces, first_pieces}
 use Rattle.guide_model.specs.declared.shown.Shown.TheVariants.{Text, Hex}
@@ -10,7 +10,6 @@ use Rattle.guide_model.specs.declared.screen.ScreenEvent.{ScreenEvent}
 use Rattle.guide_model.specs.declared.descriptor.RawDesc.{RawDesc}
 use Rattle.table_bodies.specs.declared.eit.EitHead.{EitHead}
 use Rattle.table_bodies.specs.ShownEvent.{short_of, genres_of, rating_of, pieces_in, joined, event_of}
-use Rattle.table_bodies.specs.Entries.{flags_of}
 use Rattle.table_bodies.specs.Eit.{eit_body, written_bytes, shown_event, eit_in}
 
 -- ---- event 7 at 13:00:00 of day 0xC079, of half an hour, with the name News
@@ -39,10 +38,10 @@ unfolding moment_bcd duration_bcd pieces first_pieces
 row_entry = refl
 
 -- a body without an event, and one with two events that are running (running_status 4)
-row_head : eit_body head (flags_of 4 false) [] ≡ 0x04 ∷ 0x05 ∷ 0x23 ∷ 0x3A ∷ 0x07 ∷ 0x51 ∷ []
+row_head : eit_body head 4 [] ≡ 0x04 ∷ 0x05 ∷ 0x23 ∷ 0x3A ∷ 0x07 ∷ 0x51 ∷ []
 row_head = refl
 
-row_body : eit_body head (flags_of 4 false) (news ∷ news ∷ [])
+row_body : eit_body head 4 (news ∷ news ∷ [])
     ≡ 0x04 ∷ 0x05 ∷ 0x23 ∷ 0x3A ∷ 0x07 ∷ 0x51
     ∷ 0x00 ∷ 0x07 ∷ 0xC0 ∷ 0x79 ∷ 0x13 ∷ 0x00 ∷ 0x00 ∷ 0x00 ∷ 0x30 ∷ 0x00 ∷ 0x80 ∷ 0x0B
     ∷ 0x4D ∷ 0x09 ∷ 0x65 ∷ 0x6E ∷ 0x67 ∷ 0x04 ∷ 0x4E ∷ 0x65 ∷ 0x77 ∷ 0x73 ∷ 0x00
@@ -50,25 +49,6 @@ row_body : eit_body head (flags_of 4 false) (news ∷ news ∷ [])
     ∷ 0x4D ∷ 0x09 ∷ 0x65 ∷ 0x6E ∷ 0x67 ∷ 0x04 ∷ 0x4E ∷ 0x65 ∷ 0x77 ∷ 0x73 ∷ 0x00 ∷ []
 unfolding moment_bcd duration_bcd pieces first_pieces
 row_body = refl
-
--- of a service that is scrambled (free_CA_mode 1): an event of a schedule, one that is running and one that is not (running_status 0, 4 and 1)
-row_scrambled : written_bytes (flags_of 0 true) news
-    ≡ 0x00 ∷ 0x07 ∷ 0xC0 ∷ 0x79 ∷ 0x13 ∷ 0x00 ∷ 0x00 ∷ 0x00 ∷ 0x30 ∷ 0x00 ∷ 0x10 ∷ 0x0B
-    ∷ 0x4D ∷ 0x09 ∷ 0x65 ∷ 0x6E ∷ 0x67 ∷ 0x04 ∷ 0x4E ∷ 0x65 ∷ 0x77 ∷ 0x73 ∷ 0x00 ∷ []
-unfolding moment_bcd duration_bcd pieces first_pieces
-row_scrambled = refl
-
-row_scrambled_on : written_bytes (flags_of 4 true) news
-    ≡ 0x00 ∷ 0x07 ∷ 0xC0 ∷ 0x79 ∷ 0x13 ∷ 0x00 ∷ 0x00 ∷ 0x00 ∷ 0x30 ∷ 0x00 ∷ 0x90 ∷ 0x0B
-    ∷ 0x4D ∷ 0x09 ∷ 0x65 ∷ 0x6E ∷ 0x67 ∷ 0x04 ∷ 0x4E ∷ 0x65 ∷ 0x77 ∷ 0x73 ∷ 0x00 ∷ []
-unfolding moment_bcd duration_bcd pieces first_pieces
-row_scrambled_on = refl
-
-row_scrambled_next : written_bytes (flags_of 1 true) news
-    ≡ 0x00 ∷ 0x07 ∷ 0xC0 ∷ 0x79 ∷ 0x13 ∷ 0x00 ∷ 0x00 ∷ 0x00 ∷ 0x30 ∷ 0x00 ∷ 0x30 ∷ 0x0B
-    ∷ 0x4D ∷ 0x09 ∷ 0x65 ∷ 0x6E ∷ 0x67 ∷ 0x04 ∷ 0x4E ∷ 0x65 ∷ 0x77 ∷ 0x73 ∷ 0x00 ∷ []
-unfolding moment_bcd duration_bcd pieces first_pieces
-row_scrambled_next = refl
 
 -- the same entry is read, and one with other flags and without a descriptor
 abbrev news_desc : RawDesc

@@ -9,7 +9,7 @@ use Rattle.table_bodies.specs.Entries.{TableEntry, entry_bytes, FitsEntry, Reads
 pub record IsReadAs {X : Type 0} (value_of : Reads X) (e : TableEntry) (value : X) : Type 0 where
   pub descs : List RawDesc
   pub loop : AreDescriptors e.descriptors descs
-  pub says : value_of e.bits e.fields descs ≡ Some value
+  pub says : value_of e.fields descs ≡ Some value
 
 -- entry by entry
 abbrev pub AreReadAs : {X : Type 0} → Reads X → List TableEntry → List X → Type 0

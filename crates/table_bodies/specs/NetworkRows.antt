@@ -80,7 +80,7 @@ name_shown = refl
 -- ---- service 101 of network 1, News of Acme
 
 abbrev news : SdtService
-news = record { service = 101; schedule = true; present = true; scrambled = false; kind = 1; provider = Text (codes "Acme"); name = Text (codes "News"); descriptors = [] }
+news = record { service = 101; schedule = true; present = true; kind = 1; provider = Text (codes "Acme"); name = Text (codes "News"); descriptors = [] }
 
 row_sdt : sdt_body (record { original = 1; services = news ∷ [] })
     ≡ 0x00 ∷ 0x01 ∷ 0xFF ∷ 0x00 ∷ 0x65 ∷ 0xFF ∷ 0x80 ∷ 0x0D ∷ 0x48 ∷ 0x0B ∷ 0x01 ∷ 0x04 ∷ 0x41 ∷ 0x63 ∷ 0x6D ∷ 0x65 ∷ 0x04 ∷ 0x4E ∷ 0x65 ∷ 0x77 ∷ 0x73 ∷ []
@@ -100,7 +100,7 @@ row_no_services : sdt_body (record { original = 1; services = [] }) ≡ 0x00 ∷
 row_no_services = refl
 
 -- the two flags are told apart
-row_schedule : sdt_body (record { original = 1; services = record { service = 2; schedule = true; present = false; scrambled = false; kind = 1; provider = Text []; name = Text []; descriptors = [] } ∷ [] })
+row_schedule : sdt_body (record { original = 1; services = record { service = 2; schedule = true; present = false; kind = 1; provider = Text []; name = Text []; descriptors = [] } ∷ [] })
     ≡ 0x00 ∷ 0x01 ∷ 0xFF ∷ 0x00 ∷ 0x02 ∷ 0xFE ∷ 0x80 ∷ 0x05 ∷ 0x48 ∷ 0x03 ∷ 0x01 ∷ 0x00 ∷ 0x00 ∷ []
 row_schedule = refl
 
@@ -111,26 +111,12 @@ cut_text = record { tag = 0x48; body = 0x01 ∷ 0x00 ∷ [] }
 abbrev text : RawDesc
 text = record { tag = 0x48; body = 0x01 ∷ 0x04 ∷ 0x41 ∷ 0x63 ∷ 0x6D ∷ 0x65 ∷ 0x04 ∷ 0x4E ∷ 0x65 ∷ 0x77 ∷ 0x73 ∷ [] }
 
-service_read : service_of 8 (0x00 ∷ 0x65 ∷ 0x03 ∷ []) (cut_text ∷ text ∷ []) ≡ record news { descriptors = cut_text ∷ [] }
+service_read : service_of (0x00 ∷ 0x65 ∷ 0x03 ∷ []) (cut_text ∷ text ∷ []) ≡ record news { descriptors = cut_text ∷ [] }
 unfolding chars
 service_read = refl
 
-service_bare : service_of 0xE (0x00 ∷ 0x65 ∷ 0xFD ∷ []) (cut_text ∷ []) ≡ record { service = 101; schedule = false; present = true; scrambled = false; kind = 0; provider = Text []; name = Text []; descriptors = cut_text ∷ [] }
+service_bare : service_of (0x00 ∷ 0x65 ∷ 0xFD ∷ []) (cut_text ∷ []) ≡ record { service = 101; schedule = false; present = true; kind = 0; provider = Text []; name = Text []; descriptors = cut_text ∷ [] }
 service_bare = refl
-
--- the same service, scrambled: free_CA_mode is the bit behind the three of running_status
-row_scrambled : sdt_body (record { original = 1; services = record news { scrambled = true } ∷ [] })
-    ≡ 0x00 ∷ 0x01 ∷ 0xFF ∷ 0x00 ∷ 0x65 ∷ 0xFF ∷ 0x90 ∷ 0x0D ∷ 0x48 ∷ 0x0B ∷ 0x01 ∷ 0x04 ∷ 0x41 ∷ 0x63 ∷ 0x6D ∷ 0x65 ∷ 0x04 ∷ 0x4E ∷ 0x65 ∷ 0x77 ∷ 0x73 ∷ []
-row_scrambled = refl
-
--- it is read, whatever running_status
-scrambled_read : service_of 9 (0x00 ∷ 0x65 ∷ 0x03 ∷ []) (text ∷ []) ≡ record news { scrambled = true }
-unfolding chars
-scrambled_read = refl
-
-scrambled_paused : service_of 7 (0x00 ∷ 0x65 ∷ 0x03 ∷ []) (text ∷ []) ≡ record news { scrambled = true }
-unfolding chars
-scrambled_paused = refl
 
 -- ---- bytes that are a body, or none
 

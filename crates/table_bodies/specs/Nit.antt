@@ -90,7 +90,7 @@ further_of_stream descs = without_first 0x41 service_list_in always (without_fir
 
 -- the descriptors of a network
 abbrev pub network_in : Reads (List RawDesc)
-network_in bits fields descs = Some descs
+network_in fields descs = Some descs
 
 -- what an entry says of a stream
 abbrev pub stream_with : ℕ → ℕ → List RawDesc → NitStream
@@ -103,7 +103,7 @@ stream_with stream original descs = record {
 }
 
 abbrev pub stream_in : Reads NitStream
-stream_in bits fields descs = Some (stream_with (two_at 0 fields) (two_at 2 fields) descs)
+stream_in fields descs = Some (stream_with (two_at 0 fields) (two_at 2 fields) descs)
 
 -- the bytes after their length of 12 bits, whatever the four bits before it; none where they are not as many
 abbrev pub is_loop : List ℕ → Bool

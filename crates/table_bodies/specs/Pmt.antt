@@ -72,11 +72,11 @@ component_of fields descs = record {
 }
 
 abbrev pub component_in : Reads ScreenComponent
-component_in bits fields descs = Some (component_of fields descs)
+component_in fields descs = Some (component_of fields descs)
 
 -- PCR_PID of the entry of the program, and its descriptors
 abbrev pub program_in : Reads (ℕ × List RawDesc)
-program_in bits fields descs = Some (two_at 0 fields % 8192, descs)
+program_in fields descs = Some (two_at 0 fields % 8192, descs)
 
 abbrev pub pmt_with : ℕ × List RawDesc → List ScreenComponent → HeardPmt
 pmt_with program components = record { pcr_pid = program.0; descriptors = program.1; components = components }

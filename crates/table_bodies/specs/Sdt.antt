@@ -11,23 +11,26 @@ use Rattle.guide_model.specs.Descriptors.{FitsDescriptor, descriptors_size}
 use Rattle.descriptors.specs.declared.service.ServiceText.{ServiceText}
 use Rattle.descriptors.specs.Descriptors.{descriptors_bytes}
 use Rattle.descriptors.specs.Service.{service_descriptor, service_in, HasShownNames}
-use Rattle.table_bodies.specs.Entries.{TableEntry, entry_bytes, flag_bit, flags_of, Reads, entries_in}
+use Rattle.table_bodies.specs.Entries.{TableEntry, entry_bytes, Reads, entries_in}
 use Rattle.descriptors.specs.First.{first_in, without_first, always}
 use Rattle.table_bodies.specs.declared.sdt.SdtService.{SdtService}
 use Rattle.table_bodies.specs.declared.sdt.Sdt.{Sdt}
 
 -- ---- written
 
+abbrev pub flag_bit : Bool → ℕ
+flag_bit flag = if flag then 1 else 0
+
 -- the type of a service, its provider and its name
 abbrev pub text_of : SdtService → ServiceText
 text_of s = record { kind = s.kind; provider = s.provider; name = s.name }
 
 -- service_id 16, reserved 6, all 1, EIT_schedule_flag 1, EIT_present_following_flag 1; running_status 3, which is 4, running,
--- and free_CA_mode 1; its service_descriptor, and its further descriptors
+-- and free_CA_mode 1, which is 0; its service_descriptor, and its further descriptors
 abbrev pub service_entry : SdtService → TableEntry
 service_entry s = record {
   fields = two s.service ++ (0xFC + 2 * flag_bit s.schedule + flag_bit s.present) ∷ [];
-  bits = flags_of 4 s.scrambled;
+  bits = 8;
   descriptors = service_descriptor (text_of s) ++ descriptors_bytes s.descriptors;
 }
 
@@ -55,13 +58,12 @@ text_in descs = unwrap_or (first_in 0x48 service_in descs) (record { kind = 0; p
 abbrev pub further_of_service : List RawDesc → List RawDesc
 further_of_service descs = without_first 0x48 service_in always descs
 
--- a service by its four bits, of which the last is free_CA_mode, its fields, its texts and its further descriptors
-abbrev pub service_with : ℕ → List ℕ → ServiceText → List RawDesc → SdtService
-service_with bits fields text further = record {
+-- a service by its fields, its texts and its further descriptors
+abbrev pub service_with : List ℕ → ServiceText → List RawDesc → SdtService
+service_with fields text further = record {
   service = two_at 0 fields;
   schedule = slice_index fields 2 / 2 % 2 == 1;
   present = slice_index fields 2 % 2 == 1;
-  scrambled = bits % 2 == 1;
   kind = text.kind;
   provider = text.provider;
   name = text.name;
@@ -69,16 +71,16 @@ service_with bits fields text further = record {
 }
 
 -- what an entry says of a service
-abbrev pub service_of : ℕ → List ℕ → List RawDesc → SdtService
-service_of bits fields descs = service_with bits fields (text_in descs) (further_of_service descs)
+abbrev pub service_of : List ℕ → List RawDesc → SdtService
+service_of fields descs = service_with fields (text_in descs) (further_of_service descs)
 
 abbrev pub sdt_service_in : Reads SdtService
-sdt_service_in bits fields descs = Some (service_of bits fields descs)
+sdt_service_in fields descs = Some (service_of fields descs)
 
 abbrev pub sdt_with : ℕ → List SdtService → Sdt
 sdt_with original services = record { original = original; services = services }
 
--- original_network_id, a reserved byte, and entries of services, whatever their reserved bits and running_status; none
+-- original_network_id, a reserved byte, and entries of services, whatever their reserved bits, running_status and free_CA_mode; none
 -- where the body is no such entries
 abbrev pub sdt_in : List ℕ → Option Sdt
 sdt_in body = if nat_le 3 (length body) then option_map (sdt_with (two_at 0 body)) (entries_in 3 sdt_service_in (drop 3 body)) else None

@@ -1,19 +1,17 @@
 // An entry at the front of bytes.
 ghost use Rattle.std.specs.Prelude.{◌≡◌, ◌+◌, ◌<◌, length, slice_index, is_some, option_map, IfOk, IfSome};
 ghost use Rattle.si_base.specs.Fields.{two_at};
-ghost use Rattle.table_bodies.specs.Entries.{EntryParts, descriptors_in, flag_bit, flags_of, split_in};
+ghost use Rattle.table_bodies.specs.Entries.{EntryParts, descriptors_in, split_in};
 
 use descriptors::read_descriptors;
 use guide_model::RawDescs;
 use std::alloc::{AllocError, Global};
 use std::marker::Model;
 
-/// An entry as it stands in a loop: its fields, the four bits before its length, and its descriptors, which are not read yet.
-/// Contracts see it as `EntryParts`.
+/// An entry as it stands in a loop: its fields and its descriptors, which are not read yet. Contracts see it as `EntryParts`.
 #[derive(Drop)]
 pub struct RawEntry<'a> {
     fields: &'a [u8],
-    bits: u8,
     descriptors: &'a [u8],
 }
 
@@ -22,7 +20,7 @@ impl<'a> Model for RawEntry<'a> {
 
     ghost Value = { EntryParts };
 
-    ghost view = { λ e. record { fields = e.fields.now; bits = e.bits; descriptors = e.descriptors.now } };
+    ghost view = { λ e. record { fields = e.fields.now; descriptors = e.descriptors.now } };
 }
 
 impl<'a> RawEntry<'a> {
@@ -40,13 +38,6 @@ impl<'a> RawEntry<'a> {
         ensures { result ≡ two_at place self.now.fields }
     {
         u16::from_be_bytes([self.fields[place], self.fields[place + 1]])
-    }
-
-    /// The four bits before its length.
-    pub fn bits(&self) -> u8
-        ensures { result ≡ self.now.bits }
-    {
-        self.bits
     }
 
     /// Its descriptors, or `None` exactly where one runs past their end.
@@ -87,7 +78,7 @@ fn are_descriptors(bytes: &[u8]) -> bool
 }
 
 /// The entry at the front of these bytes whose fields have `size` bytes, and what follows it; `None` exactly where the bytes end
-/// within it. It takes no memory.
+/// within it. The four bits before its length may have any value. It takes no memory.
 pub fn split_entry(size: usize, bytes: &[u8]) -> Option<(RawEntry<'_>, &[u8])>
     requires { size < 4096 }
     ensures parts { option_map (λ parts. (parts.0, parts.1.now)) result ≡ split_in size bytes.now }
@@ -99,34 +90,14 @@ pub fn split_entry(size: usize, bytes: &[u8]) -> Option<(RawEntry<'_>, &[u8])>
     }
     let (fields, behind) = bytes.split_at(size);
     let (length, behind) = behind.split_at(2);
-    let told = u16::from_be_bytes([length[0], length[1]]);
-    let len = usize::from(told % 4096);
+    let len = usize::from(u16::from_be_bytes([length[0], length[1]]) % 4096);
     if behind.len() < len {
         return None;
     }
     let (descriptors, rest) = behind.split_at(len);
     let entry = RawEntry {
         fields,
-        bits: (told / 4096) as u8,
         descriptors,
     };
     Some((entry, rest))
-}
-
-/// The four bits of a service and of an event: running_status (3 bits), and free_CA_mode, which is 1 where the service is scrambled
-/// (EN 300 468, 5.2.3 and 5.2.4).
-pub fn flags_of(status: u8, scrambled: bool) -> u8
-    requires { status < 8 }
-    ensures value { result ≡ flags_of status scrambled }
-    ensures width { result < 16 }
-{
-    2 * status + flag_bit(scrambled)
-}
-
-/// The bit of a flag.
-pub(crate) fn flag_bit(flag: bool) -> u8
-    ensures value { result ≡ flag_bit flag }
-    ensures width { result < 2 }
-{
-    if flag { 1 } else { 0 }
 }

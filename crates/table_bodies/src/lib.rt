@@ -39,7 +39,7 @@ mod shown_event;
 mod writing;
 
 pub use eit::{Eit, EitHead};
-pub use entry::{RawEntry, flags_of, split_entry};
+pub use entry::{RawEntry, split_entry};
 pub use entry_laws::entries_are_read;
 pub use event_laws::{events_are_typed, written_events_read_back};
 pub use network_laws::{bodies_have_their_sizes, written_networks_read_back};

@@ -19,8 +19,8 @@ pub trait EntryKind {
     /// How many bytes the fields of an entry have.
     ghost SIZE: { ℕ };
 
-    /// The value of the four bits before a length, of fields and of descriptors; none where they have none.
-    ghost value_of: { ℕ → List ℕ → List RawDesc → Option Self.Value };
+    /// The value of fields and of descriptors; none where the fields have none.
+    ghost value_of: { List ℕ → List RawDesc → Option Self.Value };
 
     /// What an entry with these descriptors is read as, or `None` where it is refused.
     fn read(
@@ -29,12 +29,12 @@ pub trait EntryKind {
         descs: RawDescs,
     ) -> Result<Option<Self::Value>, AllocError>
         requires { length entry.now.fields ≡ SIZE }
-        ensures { IfOk result (λ value. value ≡ value_of entry.now.bits entry.now.fields descs) };
+        ensures { IfOk result (λ value. value ≡ value_of entry.now.fields descs) };
 
     /// Whether an entry is not refused, whatever its descriptors. It takes no memory.
     fn is_read(entry: &RawEntry) -> bool
         requires { length entry.now.fields ≡ SIZE }
-        ensures { (descs : List RawDesc) → result ≡ is_some (value_of entry.now.bits entry.now.fields descs) };
+        ensures { (descs : List RawDesc) → result ≡ is_some (value_of entry.now.fields descs) };
 
     ghost is_narrow: { SIZE < 4096 };
 }

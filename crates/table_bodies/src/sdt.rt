@@ -2,10 +2,9 @@
 ghost use Rattle.std.specs.Prelude.{◌≡◌, ◌++◌, length, is_some, IfOk, OnOk};
 ghost use Rattle.std.specs.List.{All, flat_map};
 ghost use Rattle.std.proofs.Common.{lit<};
-ghost use Rattle.table_bodies.specs.Sdt.{FitsService, further_of_service, sdt_body, sdt_in, service_bytes, sdt_service_in, text_in};
+ghost use Rattle.table_bodies.specs.Sdt.{FitsService, flag_bit, further_of_service, sdt_body, sdt_in, service_bytes, sdt_service_in, text_in};
 
-use crate::entry::flag_bit;
-use crate::{EntryKind, RawEntry, are_entries, flags_of, read_entries};
+use crate::{EntryKind, RawEntry, are_entries, read_entries};
 use descriptors::descriptor_kinds::Service;
 use descriptors::{
     ServiceText, descriptors_len, no_text, take_first, write_descriptors, write_service_fields,
@@ -14,18 +13,13 @@ use guide_model::{RawDesc, RawDescs, Shown};
 use si_base::{Bytes, Items};
 use std::alloc::{AllocError, Global};
 
-/// The running_status of a service that is running (EN 300 468, 5.2.3).
-const RUNNING: u8 = 4;
-
 /// A service as it is described: service_id, whether event information of its schedule and of its present and following events is
-/// sent, whether it is scrambled (free_CA_mode), service_type (`kind`), the provider of the service, its name, and its further
-/// descriptors (EN 300 468, 5.2.3 and 6.2.33).
+/// sent, service_type (`kind`), the provider of the service, its name, and its further descriptors (EN 300 468, 5.2.3 and 6.2.33).
 #[derive(Drop)]
 pub struct SdtService {
     pub service: u16,
     pub schedule: bool,
     pub present: bool,
-    pub scrambled: bool,
     pub kind: u8,
     pub provider: Shown,
     pub name: Shown,
@@ -42,8 +36,8 @@ pub struct Sdt {
     pub services: SdtServices,
 }
 
-/// The body of a section of the service description table (EN 300 468, 5.2.3). Each service is running (running_status 4) and has a
-/// service_descriptor. Its further descriptors follow that, in their order.
+/// The body of a section of the service description table (EN 300 468, 5.2.3). Each service is running (running_status 4), is not
+/// scrambled (free_CA_mode 0), and has a service_descriptor. Its further descriptors follow that, in their order.
 ///
 /// It needs services whose texts have at most 252 bytes together, bodies of at most 255 bytes, and further descriptors of a service of
 /// at most 3,838 bytes together, so that each length fits its field.
@@ -85,19 +79,25 @@ fn put_service(service: &SdtService, out: &mut Vec<u8>) -> Result<(), AllocError
     requires { FitsService service.now }
     ensures { OnOk result (out.new.items ≡ out.old.items ++ service_bytes service.now) }
 {
-    let sent = 0xFC + 2 * flag_bit(service.schedule) + flag_bit(service.present);
-    let flags = flags_of(RUNNING, service.scrambled);
+    let flags = 0xFC + 2 * flag_bit(service.schedule) + flag_bit(service.present);
     let len = (service_len(service) - 5) as u16;
     out.extend_from_slice(&service.service.to_be_bytes())?;
-    out.push(sent)?;
-    out.extend_from_slice(&(4096 * u16::from(flags) + len).to_be_bytes())?;
+    out.push(flags)?;
+    out.extend_from_slice(&(0x8000 + len).to_be_bytes())?;
     write_service_fields(service.kind, &service.provider, &service.name, out)?;
     write_descriptors(service.descriptors.as_slice(), out)
 }
 
+// The bit of a flag.
+fn flag_bit(flag: bool) -> u8
+    ensures { result ≡ flag_bit flag }
+{
+    if flag { 1 } else { 0 }
+}
+
 /// What the body of a section of the service description table says, or `None` exactly where it has fewer than 3 bytes, ends within an
-/// entry, a descriptor runs past the end of its loop, or bytes are left over. Reserved bits and running_status may have any value
-/// (EN 300 468, 5.2.3).
+/// entry, a descriptor runs past the end of its loop, or bytes are left over. Reserved bits, running_status and free_CA_mode may have
+/// any value (EN 300 468, 5.2.3).
 ///
 /// Type, provider and name of a service are those of its first service_descriptor whose body fits; without one they are 0 and empty.
 /// All other descriptors are further ones.
@@ -148,7 +148,6 @@ impl EntryKind for ServiceEntries {
             service: entry.two(0),
             schedule: flags / 2 % 2 == 1,
             present: flags % 2 == 1,
-            scrambled: entry.bits() % 2 == 1,
             kind: text.kind,
             provider: text.provider,
             name: text.name,

@@ -13,22 +13,22 @@ use std::alloc::{AllocError, Global};
 /// The bytes of a body before its entries (EN 300 468, 5.2.4).
 const HEAD: usize = 6;
 
-/// The body of a section of event information: its head, and for each event the entry with these flags, which are its
-/// running_status and free_CA_mode (`flags_of`; EN 300 468, 5.2.4). It needs flags below 16 and events within the limits of
-/// their coded form. Memory is taken once, as much as the body has.
+/// The body of a section of event information: its head, and for each event the entry with this running_status and
+/// free_CA_mode 0 (EN 300 468, 5.2.4). It needs a running_status below 8 and events within the limits of their coded form.
+/// Memory is taken once, as much as the body has.
 pub fn write_eit(
     alloc: Global,
     head: &EitHead,
-    flags: u8,
+    status: u8,
     events: &[Event],
 ) -> Result<Bytes, AllocError>
-    requires flags { flags < 16 }
+    requires status { status < 8 }
     requires events { All IsCodable events.now }
-    ensures { IfOk result (λ body. body ≡ eit_body head.now flags events.now) }
+    ensures { IfOk result (λ body. body ≡ eit_body head.now status events.now) }
 {
     let mut out = Vec::with_capacity(alloc, body_len(events))?;
     write_head(head, &mut out)?;
-    write_entries(flags, events, &mut out)?;
+    write_entries(status, events, &mut out)?;
     Ok(Items::of(out))
 }
 
@@ -53,27 +53,27 @@ fn write_head(head: &EitHead, out: &mut Vec<u8>) -> Result<(), AllocError>
 }
 
 // Appends the entries of events; want of memory may leave a part of them.
-fn write_entries(flags: u8, events: &[Event], out: &mut Vec<u8>) -> Result<(), AllocError>
-    requires flags { flags < 16 }
+fn write_entries(status: u8, events: &[Event], out: &mut Vec<u8>) -> Result<(), AllocError>
+    requires status { status < 8 }
     requires events { All IsCodable events.now }
-    ensures { OnOk result (out.new.items ≡ out.old.items ++ flat_map (written_bytes flags) events.now) }
+    ensures { OnOk result (out.new.items ≡ out.old.items ++ flat_map (written_bytes status) events.now) }
 {
     for event in events {
-        write_entry(flags, event, out)?;
+        write_entry(status, event, out)?;
     }
     Ok(())
 }
 
 // Appends the entry of an event; want of memory may leave a part of it.
-fn write_entry(flags: u8, event: &Event, out: &mut Vec<u8>) -> Result<(), AllocError>
-    requires flags { flags < 16 }
+fn write_entry(status: u8, event: &Event, out: &mut Vec<u8>) -> Result<(), AllocError>
+    requires status { status < 8 }
     requires codable { IsCodable event.now }
-    ensures { OnOk result (out.new.items ≡ out.old.items ++ written_bytes flags event.now) }
+    ensures { OnOk result (out.new.items ≡ out.old.items ++ written_bytes status event.now) }
 {
-    let told = 4096 * u16::from(flags) + (event_len(event) - 12) as u16;
+    let flags = 8192 * u16::from(status) + (event_len(event) - 12) as u16;
     out.extend_from_slice(&event.id.to_be_bytes())?;
     out.extend_from_slice(&to_bcd(event.start))?;
     out.extend_from_slice(&duration_bcd(event.seconds))?;
-    out.extend_from_slice(&told.to_be_bytes())?;
+    out.extend_from_slice(&flags.to_be_bytes())?;
     write_event_descriptors(event, out)
 }

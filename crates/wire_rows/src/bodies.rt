@@ -8,7 +8,7 @@ use guide_model::Event;
 use row_lines::{Row, each_part, put_read, say};
 use si_base::{Bytes, Items};
 use std::fmt::Write;
-use table_bodies::{Eit, EitHead, flags_of, read_eit, write_eit};
+use table_bodies::{Eit, EitHead, read_eit, write_eit};
 
 /// `write_eit HEAD / EVENT / EVENT ..`: the body.
 pub fn write(row: &mut Row) {
@@ -38,21 +38,16 @@ fn put_eit(row: &mut Row, eit: &Eit) {
     }
 }
 
-// The body that is written: running_status stands after its name, or after `scrambled_status` where the service is scrambled.
+// The body that is written.
 fn written(row: &mut Row) -> Bytes {
     let head = head(row);
-    let named = row.word();
-    let scrambled = named == "scrambled_status";
-    if !scrambled && named != "running_status" {
-        row.refuse();
-    }
-    let status = row.octet();
+    let status = row.small("running_status");
     let events = each_part(row, event);
     if status >= 8 || !are_codable(&events) {
         row.refuse();
         return Items::new(row.alloc());
     }
-    let body = write_eit(row.alloc(), &head, flags_of(status, scrambled), &events);
+    let body = write_eit(row.alloc(), &head, status, &events);
     row.made(body).unwrap_or(Items::new(row.alloc()))
 }
 

@@ -7,7 +7,6 @@ use Rattle.guide_model.specs.declared.guide.ServiceGuide.{ServiceGuide}
 use Rattle.mux_model.specs.declared.mux.RemoteService.{RemoteService}
 use Rattle.guide_limits.specs.Events.{midnight}
 use Rattle.guide_limits.specs.Limits.{IsServiceWithin}
-use Rattle.publication.specs.Eit.{Bearer}
 use Rattle.publication.specs.Present.{present_of}
 use Rattle.publication.specs.Schedule.{remote_tables}
 use Rattle.publication.specs.EitLaws.{AreSmallEntries}
@@ -55,13 +54,10 @@ loop-service-preserved c =
     (c.service-item.is ∙ ap (λ (rs : List RemoteService). get_or rs i remote) c.as_slice-service-items.ensures) is in
     let now = c.moment.ensures in
     let put = c.in_ok-put_remote.ensures in
-    let of = c.of_other-of.ensures in
     record {
       near = map_behind (present_of (bearer_of other) guide.moment.0) ss i s lt at c.args.near.now c.loop-service.near c.put_remote.new.near c.loop-service.invariant.near
-          (put.present ∙ ap (λ (b : Bearer). c.loop-service.near ++ present_of b c.moment.result.0 s ∷ []) of
-          ∙ ap (λ (m : Moment). c.loop-service.near ++ present_of (bearer_of other) m.0 s ∷ []) now);
+          (put.present ∙ ap (λ (m : Moment). c.loop-service.near ++ present_of (bearer_of other) m.0 s ∷ []) now);
       far = flat_behind (remote_tables (bearer_of other) (midnight guide.moment.0)) ss i s lt at c.args.far.now c.loop-service.far c.put_remote.new.far c.loop-service.invariant.far
-          (put.far ∙ ap (λ (b : Bearer). c.loop-service.far ++ remote_tables b (midnight c.moment.result.0) s) of
-          ∙ ap (λ (m : Moment). c.loop-service.far ++ remote_tables (bearer_of other) (midnight m.0) s) now);
+          (put.far ∙ ap (λ (m : Moment). c.loop-service.far ++ remote_tables (bearer_of other) (midnight m.0) s) now);
       small = all_next ss i s lt at (λ (t : ServiceGuide). AreSmallEntries t.events) c.loop-service.invariant.small put.small;
     }

@@ -15,7 +15,7 @@ loop-rest-preserved g c =
     let some : 0 < length rest = omega (arith, eqb-false _ _ (sym c.loop-rest-test.ensures)) in
     let split : Some (entry, after) ≡ split_in size rest = subst (λ n. Some (entry, after) ≡ split_in n rest) c.SIZE.ensures c.in-Some.ensures.parts in
     let value : value_in value_of entry ≡ Some c.in-Some-3.value =
-    ap (option_and_then (value_of entry.bits entry.fields)) (sym c.in_ok-descs.ensures ∙ c.in-Some-2.is)
+    ap (option_and_then (value_of entry.fields)) (sym c.in_ok-descs.ensures ∙ c.in-Some-2.is)
     ∙ sym c.in_ok-value.ensures ∙ c.in-Some-3.is in
     c.loop-rest.invariant
     ∙ one_read size value_of rest entry after c.loop-rest.values.items c.in-Some-3.value some split value

@@ -8,7 +8,7 @@ overflow_cast-len c =
     let size = length-service_descriptors c.args.service.now in
     grind (arith, common_steps, size)
 
-pub overflow_add-from : goal.overflow_add-from
-overflow_add-from c =
+pub overflow_add-len : goal.overflow_add-len
+overflow_add-len c =
     let size = length-service_descriptors c.args.service.now in
     grind (arith, common_steps, size)

@@ -4,4 +4,4 @@ use Rattle.table_bodies.proofs.writing.write_entries.Given as goal
 
 -- the entries of the events so far stand behind what was there
 abbrev pub invariant-loop-event : goal.invariant-loop-event
-invariant-loop-event l = l.out.items ≡ l.fn.out.items ++ flat_map (written_bytes l.flags) (take l.event-index l.events)
+invariant-loop-event l = l.out.items ≡ l.fn.out.items ++ flat_map (written_bytes l.status) (take l.event-index l.events)

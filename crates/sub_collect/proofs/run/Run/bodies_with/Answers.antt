@@ -21,12 +21,12 @@ pub loop-i-preserved : goal.loop-i-preserved
 loop-i-preserved c =
     let held = held_with (λ n. body_in n c.args.self.now.held.entries) c.args.put c.args.body.now in
     let ns = c.args.numbers.now in
-    let body : c.in_ok-body.body ≡ c.in-Some.held.now = c.in_ok-body.ensures ∙ c.of-bytes.ensures ∙ c.in_ok-from_slice.ensures.items in
-    gather-more held ns c.loop-i.i 0 c.loop-i.sections.items (content_by held ns) c.loop-i.invariant c.in_ok-body.body c.loop-i-test.true (sym c.in-Some.ensures ∙ ap Some (sym body))
+    let body : c.of-body.result ≡ c.in-Some.held.now = c.of-body.ensures ∙ c.in_ok-from_slice.ensures.items in
+    gather-more held ns c.loop-i.i 0 c.loop-i.sections.items (content_by held ns) c.loop-i.invariant c.of-body.result c.loop-i-test.true (sym c.in-Some.ensures ∙ ap Some (sym body))
     ∙ ap (λ (l : Content). with_front l (content_by held (drop (c.loop-i.i + 1) ns))) (sym c.in_ok-push.ensures.items)
 
 pub returns : goal.returns
 returns c =
     let held = held_with (λ n. body_in n c.args.self.now.held.entries) c.args.put c.args.body.now in
     let ns = c.args.numbers.now in
-    sym (gather-end held ns c.loop-i.i 0 c.loop-i.sections.items (content_by held ns) c.loop-i.invariant (omega (arith, c.loop-i-test.false)) ∙ ap Some (sym c.of-2.ensures))
+    sym (gather-end held ns c.loop-i.i 0 c.loop-i.sections.items (content_by held ns) c.loop-i.invariant (omega (arith, c.loop-i-test.false)) ∙ ap Some (sym c.of.ensures))

@@ -5,7 +5,7 @@ use Rattle.sub_collect.specs.Parts.{numbered}
 use Rattle.sub_collect.specs.PartSlots.{held_by}
 use Rattle.sub_collect.proofs.Slots.{body_in-get}
 use Rattle.sub_collect.proofs.PartsHeld.{held-none, held-some}
-use Rattle.sub_collect.proofs.run.Run.held_of.Goals.{in-Some+in_ok-from_slice+in_ok-body+in_ok-push, in_default}
+use Rattle.sub_collect.proofs.run.Run.held_of.Goals.{in-Some+in_ok-from_slice+in_ok-push, in_default}
 use Rattle.sub_collect.proofs.run.Run.held_of.Goals as goal
 
 pub loop-i-preserved : goal.loop-i-preserved
@@ -18,9 +18,9 @@ loop-i-preserved c =
     let before = c.loop-i.sections.items in
     let next = λ (l : Content). l ++ held_by bodies (drop (i + 1) ns) in
     elim c.match-get.branch [
-      | in-Some+in_ok-from_slice+in_ok-body+in_ok-push w ↦
+      | in-Some+in_ok-from_slice+in_ok-push w ↦
           ap (λ v. next v.items) w.sections-is
-          ∙ ap next (w.in_ok-push.ensures.items ∙ ap (λ b. before ++ numbered n b ∷ []) (w.in_ok-body.ensures ∙ w.of-bytes.ensures ∙ w.in_ok-from_slice.ensures.items ∙ w.as_slice.ensures))
+          ∙ ap next (w.in_ok-push.ensures.items ∙ ap (λ b. before ++ numbered n b ∷ []) (w.of-body.ensures ∙ w.in_ok-from_slice.ensures.items ∙ w.as_slice.ensures))
           ∙ held-some bodies ns i 0 before c.loop-i.invariant c.loop-i-test.true w.in-Some.held.now (sym (body_in-get n entries) ∙ sym w.in-Some.ensures.value)
       | in_default w ↦
           ap (λ v. next v.items) w.sections-is

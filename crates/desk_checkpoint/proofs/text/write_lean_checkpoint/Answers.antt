@@ -1,7 +1,7 @@
 use Rattle.std.proofs.Common.{arith}
 use Rattle.std.proofs.lemmas.Grind.{common_steps}
 use Rattle.journal_air.proofs.SwapFacts.{on_ok}
-use Rattle.desk_checkpoint.proofs.text.write_checkpoint.Goals as goal
+use Rattle.desk_checkpoint.proofs.text.write_lean_checkpoint.Goals as goal
 
 pub returns-clause-handed : goal.returns-clause-handed
 returns-clause-handed c = on_ok c.extend_from_slice.result c.in_ok-text.ensures.handed

@@ -8,7 +8,7 @@ use Rattle.cycle_player.specs.Clock.{reads}
 use Rattle.desk_checkpoint.specs.Fields.{count_fields}
 use Rattle.desk_checkpoint.specs.Text.{clock_text, counter_text, desk_steps, key_text, steps_text}
 use Rattle.desk_checkpoint.proofs.HandedFacts.{handed}
-use Rattle.desk_checkpoint.proofs.text.lean_checkpoint.Goals as goal
+use Rattle.desk_checkpoint.proofs.text.text_of.Goals as goal
 
 pub returns-clause-text : goal.returns-clause-text
 returns-clause-text c = λ journal stands.
